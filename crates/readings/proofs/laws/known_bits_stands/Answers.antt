@@ -1,0 +1,5 @@
+use Rattle.readings.proofs.Files.{known-bits}
+use Rattle.readings.proofs.laws.known_bits_stands.Needs as need
+
+pub returns : need.returns
+returns c = known-bits

@@ -1,0 +1,5 @@
+use Rattle.readings.proofs.Writing.{reads-back}
+use Rattle.readings.proofs.laws.reads_back_stands.Needs as need
+
+pub returns : need.returns
+returns c = reads-back

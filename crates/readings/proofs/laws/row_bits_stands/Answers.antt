@@ -1,0 +1,5 @@
+use Rattle.readings.proofs.Files.{row-bits}
+use Rattle.readings.proofs.laws.row_bits_stands.Needs as need
+
+pub returns : need.returns
+returns c = row-bits

@@ -1,0 +1,94 @@
+// Worked examples: one table's file whole, and each refusal of the list for a table.
+use crate::Lent;
+use crate::Refusal;
+use crate::Rows;
+use crate::read;
+use crate::read_rows;
+use crate::read_sizes;
+use std::test::*;
+
+// Four books and three places, whose sets are 1 2, then 2, then 3.
+const FIRST: [u8; 27] = [
+    4,
+    3,
+    0, // sizes
+    6,
+    0,
+    0,
+    0,
+    0,
+    0,
+    0,
+    0, // books 1 and 2
+    4,
+    0,
+    0,
+    0,
+    0,
+    0,
+    0,
+    0, // book 2
+    8,
+    0,
+    0,
+    0,
+    0,
+    0,
+    0,
+    0, // book 3
+];
+
+// The number and the place of the refusal, or 0 and the number of places.
+fn said(file: &[u8]) -> (u8, usize) {
+    match read(file) {
+        Ok((sizes, _)) => (0, sizes.places as usize),
+        Err(refusal) => (refusal.number(), refusal.place()),
+    }
+}
+
+// The row of a place, through the view that spares the checks.
+fn row(file: &[u8], p: u16) -> Result<u64, Refusal> {
+    let sizes = read_sizes(file)?;
+    let bytes = read_rows(file, sizes)?;
+    let rows = Rows { sizes, bytes };
+    Ok(rows.row(p))
+}
+
+fn row_or(file: &[u8], p: u16, other: u64) -> u64 {
+    match row(file, p) {
+        Ok(row) => row,
+        Err(_) => other,
+    }
+}
+
+#[test]
+fn reads_the_first_table() -> Result<(), Fail> {
+    check_eq(said(&FIRST), (0, 3))?;
+    check_eq(row_or(&FIRST, 0, 1), 6)?;
+    check_eq(row_or(&FIRST, 2, 1), 8)?;
+    check_eq(row_or(&FIRST, 3, 1), 0)
+}
+
+#[test]
+fn refuses_sizes() -> Result<(), Fail> {
+    check_eq(said(&[]), (1, 0))?;
+    check_eq(said(&[0, 0, 0]), (1, 0))?;
+    check_eq(said(&[65, 1, 8]), (1, 0))?;
+    check_eq(said(&[64, 0]), (2, 1))?;
+    check_eq(said(&[64, 1, 8]), (2, 1))
+}
+
+#[test]
+fn refuses_rows() -> Result<(), Fail> {
+    check_eq(said(&[64, 0, 8]), (3, 3))?;
+    check_eq(said(&FIRST[0..26]), (3, 26))?;
+    let mut strange = FIRST;
+    strange[11] = 16;
+    check_eq(said(&strange), (4, 1))
+}
+
+#[test]
+fn numbers_the_slices() -> Result<(), Fail> {
+    check_eq(Refusal::Room(Lent::Homes).number(), 10)?;
+    check_eq(Refusal::Room(Lent::Homes).place(), 2)
+}

@@ -1,0 +1,35 @@
+// The rows of a table where they lie in its file.
+ghost use Prim.Native.Nat.{_*_, _<_, _≤_};
+ghost use Rattle.readings.specs.Files.{Known, row-at, rows-in};
+ghost use denote.Ref.{now};
+ghost use lib.Dec.{ltb};
+ghost use lib.ListN.{length};
+ghost use mathlib.Core.Bool.{cond};
+ghost use mathlib.Core.Path.{_≡_};
+use crate::file::Sizes;
+use crate::file::row_of;
+
+// The readings of a table that was taken: whoever holds them need check nothing again.
+#[derive(Clone, Copy)]
+pub struct Rows<'a> {
+    pub sizes: Sizes,
+    // Eight for each place.
+    pub bytes: &'a [u8],
+    ghost some: { 0 < sizes .books },
+    ghost few: { sizes .books ≤ 64 },
+    ghost short: { sizes .places ≤ 2048 },
+    ghost whole: { length (now bytes) ≡ 8 * sizes .places },
+    ghost known: { Known (sizes .books) (rows-in (now bytes) (sizes .places)) },
+}
+
+impl Rows<'_> {
+    // The row of the place p: bit i is what book i reads. Past the last place no book reads 1.
+    pub fn row(self, p: u16) -> u64
+        ensures { λ r. ⌜ r ≡ cond (ltb p (self .entry .sizes .places)) (row-at (now (self .entry .bytes)) p) 0 ⌝ }
+    {
+        if p >= self.sizes.places {
+            return 0;
+        }
+        row_of(self.bytes, p)
+    }
+}

@@ -1,0 +1,127 @@
+// The program `stemma`: says of a table's file what it holds, or why it is turned away.
+use readings::Refusal;
+use readings::Sizes;
+use std::env;
+use std::fs;
+use std::io;
+
+const HELP: &str = "usage: stemma TABLE
+
+Reads the table of readings in the file TABLE and prints its sizes:
+  books N, places M      the table can be read
+  refused N at P         it is turned away: rule N of the list, at place P
+
+Status 0 after the sizes; 1 after a refusal, and where the file can't be read
+(then with a message on standard error).
+
+  --help      print this text
+  --version   print the version
+";
+
+const VERSION: &str = "stemma 0.1.0";
+
+// The program ends with status 1; what there is to say was said.
+#[derive(Drop)]
+struct Failed;
+
+// What the arguments ask for.
+#[derive(Drop)]
+enum Request {
+    Help,
+    Version,
+    Table(String),
+    // No file is named.
+    Nothing,
+    Unknown(String),
+    TooMuch(String),
+}
+
+fn requested(rt: &LibcRuntime) -> io::Result<Request> {
+    let mut words = env::args(rt)?;
+    let _ = words.next();
+    let Some(first) = words.next() else {
+        return Ok(Request::Nothing);
+    };
+    if first.as_str() == "--help" {
+        return Ok(Request::Help);
+    }
+    if first.as_str() == "--version" {
+        return Ok(Request::Version);
+    }
+    if first.as_str().starts_with("-") {
+        return Ok(Request::Unknown(first));
+    }
+    match words.next() {
+        Some(second) => Ok(Request::TooMuch(second)),
+        None => Ok(Request::Table(first)),
+    }
+}
+
+// Where standard output can't be written, says so.
+fn written(rt: &LibcRuntime, result: io::Result<()>) -> Result<(), Failed> {
+    let Err(error) = result else {
+        return Ok(());
+    };
+    let _ = eprintln!(rt, "stemma: cannot write the answer: {error}");
+    Err(Failed)
+}
+
+fn show_sizes(rt: &LibcRuntime, sizes: Sizes) -> Result<(), Failed> {
+    let Sizes { books, places } = sizes;
+    written(rt, println!(rt, "books {books}, places {places}"))
+}
+
+fn show_refusal(rt: &LibcRuntime, refusal: Refusal) -> Result<(), Failed> {
+    let number = refusal.number();
+    let place = refusal.place();
+    written(rt, println!(rt, "refused {number} at {place}"))?;
+    Err(Failed)
+}
+
+fn show_table(rt: &LibcRuntime, path: &str) -> Result<(), Failed> {
+    let file = match fs::read(rt, path) {
+        Ok(file) => file,
+        Err(error) => {
+            let _ = eprintln!(rt, "stemma: cannot read '{path}': {error}");
+            return Err(Failed);
+        }
+    };
+    match readings::read(file.as_slice()) {
+        Ok((sizes, _)) => show_sizes(rt, sizes),
+        Err(refusal) => show_refusal(rt, refusal),
+    }
+}
+
+fn answer(rt: &LibcRuntime, request: Request) -> Result<(), Failed> {
+    match request {
+        Request::Help => return written(rt, print!(rt, "{HELP}")),
+        Request::Version => return written(rt, println!(rt, "{VERSION}")),
+        Request::Table(path) => return show_table(rt, path.as_str()),
+        Request::Nothing => {
+            let _ = eprintln!(rt, "stemma: no file is named (try stemma --help)");
+        }
+        Request::Unknown(word) => {
+            let _ = eprintln!(rt, "stemma: unknown option '{word}' (try stemma --help)");
+        }
+        Request::TooMuch(word) => {
+            let _ = eprintln!(
+                rt,
+                "stemma: one file is read, not also '{word}' (try stemma --help)"
+            );
+        }
+    }
+    Err(Failed)
+}
+
+fn main(rt: LibcRuntime) -> Result<(), Failed> {
+    match requested(&rt) {
+        Ok(request) => answer(&rt, request),
+        Err(error) => {
+            let _ = eprintln!(
+                rt,
+                "stemma: cannot read the arguments, which have to be UTF-8: {error}"
+            );
+            Err(Failed)
+        }
+    }
+}
