@@ -1,10 +1,10 @@
 -- Bits of numbers, and of the numbers that bytes write.
-use mathlib.Core.Path.{_≡_, refl, sym, ap, subst, _∙_}
+use mathlib.Core.Path.{_≡_, sym, ap, subst, _∙_}
 use mathlib.Core.Logic.{_⊎_, inl, inr}
-use mathlib.Core.Bool.{Bool, true, false}
+use mathlib.Core.Bool.{false}
 use mathlib.Core.List.{List, [], _∷_}
 use Prim.Native.Nat.{ℕ, zero, suc, _+_, _*_, _/_, _%_, _^_, _<_, _≤_}
-use native.Mathlib.Nat.{div-one, div-eq-of-lt, div-div-eq-div-mul, mod-lt, mul-assoc, pow-le-pow-right, pow-suc, pow-succ', zero-div}
+use native.Mathlib.Nat.{div-one, div-eq-of-lt, div-div-eq-div-mul, mod-lt, mul-assoc, pow-le-pow-right, pow-succ', zero-div}
 use native.Mathlib.Omega.{arith}
 use lib.Dec.{eqb}
 use lib.ListN.{length, getD, take, drop}

@@ -1,13 +1,12 @@
 -- What holds of a table's file as it is read.
 use mathlib.Core.Path.{_≡_, refl, sym, ap, ap₂, _∙_}
 use mathlib.Core.Bool.{Bool, true, false, cond}
-use mathlib.Core.List.{List, [], _∷_, map}
-use Prim.Native.Nat.{ℕ, zero, suc, _+_, _-_, _*_, _/_, _%_, _<_}
+use mathlib.Core.List.{List, [], _∷_}
+use Prim.Native.Nat.{ℕ, zero, suc, _+_, _-_, _*_, _<_}
 use native.Mathlib.Nat.{div-eq-of-lt}
 use native.Mathlib.Omega.{arith}
 use lib.Dec.{eqb}
 use lib.ListN.{length, getD, take, drop}
-use Rattle.std.specs.Iters.{counting}
 use Rattle.std.proofs.shelf.Lists.{at-drop-more, getD-drop, getD-take}
 use Rattle.std.proofs.shelf.Counted.{getD-map-counting, length-map-counting}
 use Rattle.std.proofs.shelf.Tests.{eq-eqb, eqb-true}
@@ -17,12 +16,11 @@ use Rattle.std.specs.declared.option.Option.{Option}
 use Rattle.std.specs.declared.option.Option.the-variants.{Some, None}
 use Rattle.readings.proofs.Bits.{below-from-bits, bits-above, bytes-drop, bytes-take, little-bits, shr-none}
 use Rattle.readings.specs.Bits.{bit, little}
-use Rattle.readings.specs.Files.{Contents, Known, after, books-in, bytes-of, if-known, known, no-books, no-places, places-in, reading, row-at, rows-in, sizes-of, stranger}
-use Rattle.readings.specs.Tables.{differ, table-of}
+use Rattle.readings.specs.Files.{Contents, All-known, and-then, books-in, bytes-of, unless-stranger, known, no-books, no-places, places-in, reading, row-at, rows-in, sizes-of, stranger}
 use Rattle.readings.specs.declared.file.Sizes.{Sizes}
 use Rattle.readings.specs.declared.refusals.Refusal.{Refusal}
 use Rattle.readings.specs.declared.refusals.Refusal.the-variants.{BookCount, PlaceCount, TableLength}
-use Rattle.readings.specs.Statements.{Known-bits, Row-bits, Table-bits}
+use Rattle.readings.specs.Statements.{Known-bits, Row-bits}
 
 -- ---- the rows
 
@@ -69,23 +67,23 @@ module _ (n p m : ℕ) (bytes : List ℕ) (l : p < m) where
 
 -- ---- no stranger
 
-known-from : (n p : ℕ) (rows : List ℕ) → stranger n p rows ≡ None → Known n rows
+known-from : (n p : ℕ) (rows : List ℕ) → stranger n p rows ≡ None → All-known n rows
 known-from n p [] e q l = absurd (omega arith)
 known-from n p (w ∷ rows) e q l = by (known n w) refl (λ f. known-from n (p + 1) rows f) q l
   where
-    by : (b : Bool) → known n w ≡ b → (stranger n (p + 1) rows ≡ None → Known n rows) → Known n (w ∷ rows)
+    by : (b : Bool) → known n w ≡ b → (stranger n (p + 1) rows ≡ None → All-known n rows) → All-known n (w ∷ rows)
     by true t rest zero l = shr-none w n (eqb-true _ _ t)
     by true t rest (suc q) l = rest (cc) q (omega arith)
     by false t rest q l = let f : Some p ≡ None = cc in let y : _≡_ {A = ℕ} 0 1 = cc in absurd (omega arith)
 
-pub all-known : (n : ℕ) (rows : List ℕ) → stranger n 0 rows ≡ None → Known n rows
+pub all-known : (n : ℕ) (rows : List ℕ) → stranger n 0 rows ≡ None → All-known n rows
 all-known n rows = known-from n 0 rows
 
 -- ---- a file that is read
 
-after-ok : {X Y : Type 0} (r : Result X Refusal) (next : X → Result Y Refusal) (y : Y) → after r next ≡ Ok y → (x : X) × (r ≡ Ok x) × (next x ≡ Ok y)
-after-ok (Ok x) next y e = (x, refl, e)
-after-ok (Err d) next y e = absurd (never e)
+and-then-ok : {X Y : Type 0} (r : Result X Refusal) (next : X → Result Y Refusal) (y : Y) → and-then r next ≡ Ok y → (x : X) × (r ≡ Ok x) × (next x ≡ Ok y)
+and-then-ok (Ok x) next y e = (x, refl, e)
+and-then-ok (Err d) next y e = absurd (never e)
   where
     never : Err d ≡ Ok y → ⊥
     never f = let z : _≡_ {A = ℕ} 0 1 = cc in omega arith
@@ -99,9 +97,9 @@ held : {X : Type 0} (b : Bool) (d : Refusal) (r : Result X Refusal) (x : X) → 
 held true d r x e = (refl, e)
 held false d r x e = let z : _≡_ {A = ℕ} 0 1 = cc in absurd (omega arith)
 
-if-known-ok : (o : Option ℕ) (bytes xs : List ℕ) → if-known o bytes ≡ Ok xs → (o ≡ None) × (bytes ≡ xs)
-if-known-ok None bytes xs e = (refl, cc)
-if-known-ok (Some p) bytes xs e = let z : _≡_ {A = ℕ} 0 1 = cc in absurd (omega arith)
+unless-stranger-ok : (o : Option ℕ) (bytes xs : List ℕ) → unless-stranger o bytes ≡ Ok xs → (o ≡ None) × (bytes ≡ xs)
+unless-stranger-ok None bytes xs e = (refl, cc)
+unless-stranger-ok (Some p) bytes xs e = let z : _≡_ {A = ℕ} 0 1 = cc in absurd (omega arith)
 
 -- what holds of a file that is read
 pub record Taken (file : List ℕ) (c : Contents) : Type 0 where
@@ -114,19 +112,19 @@ pub record Taken (file : List ℕ) (c : Contents) : Type 0 where
 
 pub taken : (file : List ℕ) (c : Contents) → reading file ≡ Ok c → Taken file c
 taken file c e =
-    let a = after-ok (sizes-of file) _ c e in
+    let a = and-then-ok (sizes-of file) _ c e in
     let b = passed (no-books file) BookCount _ _ (a .1) in
     let p = passed (no-places file) PlaceCount _ _ (b .1) in
     by (a .0) (b .0) (p .0) (cc (p .1)) (a .2)
   where
     by : (z : Sizes) → no-books file ≡ false → no-places file ≡ false → z ≡ record { books = books-in file; places = places-in file }
-        → after (bytes-of file z) (λ bytes. Ok (record { books = z .books; rows = rows-in bytes (z .places) })) ≡ Ok c → Taken file c
+        → and-then (bytes-of file z) (λ bytes. Ok (record { books = z .books; rows = rows-in bytes (z .places) })) ≡ Ok c → Taken file c
     by z some short z-is e =
         let n-is = ap (λ (s : Sizes). s .books) z-is in
         let m-is = ap (λ (s : Sizes). s .places) z-is in
-        let a = after-ok (bytes-of file z) _ c e in
+        let a = and-then-ok (bytes-of file z) _ c e in
         let l = held (eqb (length file) (3 + 8 * z .places)) (TableLength (length file)) _ _ (a .1) in
-        let k = if-known-ok (stranger (z .books) 0 (rows-in (drop 3 file) (z .places))) _ _ (l .1) in
+        let k = unless-stranger-ok (stranger (z .books) 0 (rows-in (drop 3 file) (z .places))) _ _ (l .1) in
         let c-is : record { books = z .books; rows = rows-in (a .0) (z .places) } ≡ c = cc (a .2) in
         let long = eqb-true _ _ (l .0) in
         record {
@@ -137,21 +135,3 @@ taken file c e =
           long = omega arith;
           none = sym (ap₂ (λ (n m : ℕ). stranger n 0 (rows-in (drop 3 file) m)) n-is m-is) ∙ k .0;
         }
-
--- ---- the table of a file
-
-pub table-bits : Table-bits
-unfolding table-of
-table-bits file c small e p i hp hi =
-    let t = taken file c e in
-    let m-is = ap length (t .rows-are) ∙ length-rows (drop 3 file) (places-in file) in
-    let row : getD (c .rows) p 0 ≡ row-at (drop 3 file) p = ap (λ (rows : List ℕ). getD rows p 0) (t .rows-are) ∙ getD-rows (drop 3 file) (places-in file) p (omega arith) in
-    let i-is : 8 * (i / 8) + i % 8 ≡ i = omega arith in
-    ap₂ differ (book row 0 0 (3 + 8 * p) (omega arith) (omega arith) (omega arith))
-    (ap (bit (getD (c .rows) p 0)) (sym i-is) ∙ book row (i / 8) (i % 8) (3 + 8 * p + i / 8) (omega arith) (omega arith) (omega arith))
-  where
-    book : {w : ℕ} → w ≡ row-at (drop 3 file) p → (b j at : ℕ) → at ≡ 3 + (8 * p + b) → b < 8 → j < 8 → bit w (8 * b + j) ≡ bit (getD file at 0) j
-    book row b j at at-is hb hj =
-        ap (λ (w : ℕ). bit w (8 * b + j)) row
-        ∙ row-bits (drop 3 file) (bytes-drop 3 file small) p b j hb hj
-        ∙ ap (λ (x : ℕ). bit x j) (getD-drop 3 file (8 * p + b) 0 ∙ ap (λ (k : ℕ). getD file k 0) (sym at-is))

@@ -1,3 +1,4 @@
 pub mod Bits
 pub mod Files
+pub mod Tables
 pub mod Writing

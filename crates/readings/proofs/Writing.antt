@@ -1,28 +1,24 @@
 -- A table is read as it was written, and no other file is read.
-use mathlib.Core.Path.{_≡_, refl, sym, ap, ap₂, subst, _∙_}
-use mathlib.Core.Bool.{Bool, true, false, cond, _||_}
+use mathlib.Core.Path.{_≡_, refl, sym, ap, ap₂, _∙_}
+use mathlib.Core.Bool.{_||_}
 use mathlib.Core.List.{List, [], _∷_, _++_, map}
-use Prim.Native.Nat.{ℕ, zero, suc, _+_, _-_, _*_, _/_, _%_, _^_, _<_, _≤_}
+use Prim.Native.Nat.{ℕ, zero, suc, _+_, _*_, _/_, _%_, _^_, _<_, _≤_}
 use native.Mathlib.Nat.{div-eq-of-lt, pow-suc}
 use native.Mathlib.Omega.{arith}
 use lib.Dec.{eqb, ltb}
 use lib.ListN.{length, getD, take, drop, length-append}
 use Rattle.std.specs.Iters.{counting}
 use Rattle.std.specs.Joined.{joined}
-use Rattle.std.proofs.shelf.Lists.{take-at, drop-at, drop-drop, take-append-drop, ext-getD, length-take-le, length-drop, nil-from-length}
+use Rattle.std.proofs.shelf.Lists.{take-at, drop-at, drop-drop, take-append-drop, length-take-le, length-drop, nil-from-length}
 use Rattle.std.proofs.shelf.Counted.{fill-by-all, getD-map-counting, length-map-counting}
 use Rattle.readings.specs.Bits.{Bytes, little}
-use Rattle.std.proofs.shelf.Tests.{cond-true, cond-false, eq-eqb, ne-eqb, le-ltb, or-from, or-parts, eqb-true, eqb-false, ltb-false}
-use Rattle.std.specs.declared.option.Option.{Option}
-use Rattle.std.specs.declared.option.Option.the-variants.{Some, None}
-use Rattle.std.specs.declared.result.Result.{Result}
-use Rattle.std.specs.declared.result.Result.the-variants.{Ok, Err}
+use Rattle.std.proofs.shelf.Tests.{cond-true, cond-false, eq-eqb, ne-eqb, le-ltb, or-from, or-parts, eqb-false, ltb-false}
+use Rattle.std.specs.declared.option.Option.the-variants.{None}
+use Rattle.std.specs.declared.result.Result.the-variants.{Ok}
 use Rattle.readings.specs.declared.file.Sizes.{Sizes}
-use Rattle.readings.specs.declared.refusals.Refusal.{Refusal}
-use Rattle.readings.specs.declared.refusals.Refusal.the-variants.{BookCount, PlaceCount, TableLength}
-use Rattle.readings.specs.Files.{Contents, Known, after, books-in, bytes-of, if-known, known, no-books, no-places, places-in, reading, row-at, rows-in, sizes-of, stranger}
+use Rattle.readings.specs.Files.{All-known, and-then, books-in, bytes-of, unless-stranger, known, no-books, no-places, places-in, row-at, rows-in, sizes-of, stranger}
 use Rattle.readings.specs.Statements.{Reads-back, Only-written}
-use Rattle.readings.specs.Writing.{Allowed, file-of, in-bytes}
+use Rattle.readings.specs.Writing.{file-of, in-bytes}
 use Rattle.readings.proofs.Bits.{bytes-drop, bytes-take, pow-mono}
 use Rattle.readings.proofs.Files.{all-known, length-rows, row-eight, taken}
 
@@ -107,7 +103,7 @@ joined-rows (suc m) bytes small h =
 
 -- ---- what is written is read
 
-no-stranger : (n p : ℕ) (rows : List ℕ) → Known n rows → stranger n p rows ≡ None
+no-stranger : (n p : ℕ) (rows : List ℕ) → All-known n rows → stranger n p rows ≡ None
 no-stranger n p [] h = refl
 no-stranger n p (w ∷ rows) h =
     cond-true (known n w) _ _ (eq-eqb (w / 2 ^ n) 0 (div-eq-of-lt (h 0 (omega arith))))
@@ -125,7 +121,7 @@ sizes-taken file n m en em long some few short =
 
 bytes-taken : (file : List ℕ) (z : Sizes) → length file ≡ 3 + 8 * z .places → stranger (z .books) 0 (rows-in (drop 3 file) (z .places)) ≡ None → bytes-of file z ≡ Ok (drop 3 file)
 bytes-taken file z long none =
-    cond-true (eqb (length file) (3 + 8 * z .places)) _ _ (eq-eqb _ _ long) ∙ ap (λ o. if-known o (drop 3 file)) none
+    cond-true (eqb (length file) (3 + 8 * z .places)) _ _ (eq-eqb _ _ long) ∙ ap (λ o. unless-stranger o (drop 3 file)) none
 
 pub reads-back : Reads-back
 reads-back c a =
@@ -137,9 +133,9 @@ reads-back c a =
     let power = pow-mono (c .books) 64 few in
     let same : rows-in body (length (c .rows)) ≡ c .rows = rows-joined (c .rows) (λ p l. let k = a .known p l in omega arith) in
     let m-is : length (c .rows) % 256 + 256 * (length (c .rows) / 256) ≡ length (c .rows) = omega arith in
-    ap (λ r. after r (λ s. after (bytes-of (file-of c) s) (λ bytes. Ok (record { books = s .books; rows = rows-in bytes (s .places) }))))
+    ap (λ r. and-then r (λ s. and-then (bytes-of (file-of c) s) (λ bytes. Ok (record { books = s .books; rows = rows-in bytes (s .places) }))))
     (sizes-taken (file-of c) (c .books) (length (c .rows)) refl m-is (omega arith) (a .some) few short)
-    ∙ ap (λ r. after r (λ bytes. Ok (record { books = c .books; rows = rows-in bytes (length (c .rows)) })))
+    ∙ ap (λ r. and-then r (λ bytes. Ok (record { books = c .books; rows = rows-in bytes (length (c .rows)) })))
     (bytes-taken (file-of c) z (omega arith) (ap (stranger (c .books) 0) same ∙ no-stranger (c .books) 0 (c .rows) (a .known)))
     ∙ ap (λ (xs : List ℕ). Ok (record { books = c .books; rows = xs })) same
 

@@ -1,10 +1,12 @@
 -- A table's file, and what reading it answers. Assumes nothing: these are definitions.
---   books-in, places-in   the two sizes as the file has them
---   sizes-of              the sizes, or the first refusal on their account
---   row-at, rows-in       the row of one place, and of each
---   stranger              the first place with a book that is not there
---   bytes-of              the bytes of the rows, or the first refusal on their account
---   Contents, reading     what a whole file holds, or the first refusal of the list
+--   books-in, places-in    the two sizes as the file has them
+--   no-books, no-places    whether they are missing or outside their limits
+--   sizes-of               the sizes, or the refusal on their account
+--   row-at, rows-in        the row of one place, and of each
+--   known, All-known       whether each book that reads 1 is there, in a row and in all
+--   stranger               the first place with a book that is not there
+--   bytes-of               the bytes of the rows, or the refusal on their account
+--   Contents, reading      what a whole file holds, or the first refusal of the list
 use denote.Ref.{RefT, now}
 use mathlib.Core.Bool.{Bool, cond, _||_}
 use mathlib.Core.List.{List, [], _∷_, map}
@@ -22,6 +24,8 @@ use Rattle.readings.specs.declared.refusals.Refusal.{Refusal}
 use Rattle.readings.specs.declared.refusals.Refusal.the-variants.{BookCount, PlaceCount, TableLength, UnknownBook}
 use Rattle.readings.specs.declared.file.Sizes.{Sizes}
 
+-- ---- the sizes
+
 -- n, in one byte
 abbrev pub books-in : List ℕ → ℕ
 books-in file = getD file 0 0
@@ -30,25 +34,24 @@ books-in file = getD file 0 0
 abbrev pub places-in : List ℕ → ℕ
 places-in file = getD file 1 0 + 256 * getD file 2 0
 
--- 1: n is missing, 0 or above 64
+-- n is missing, 0 or above 64
 abbrev pub no-books : List ℕ → Bool
 no-books file = eqb (length file) 0 || eqb (books-in file) 0 || ltb 64 (books-in file)
 
--- 2: m is missing, in whole or in part, or above 2,048
+-- m is missing, in whole or in part, or above 2,048
 abbrev pub no-places : List ℕ → Bool
 no-places file = ltb (length file) 3 || ltb 2048 (places-in file)
 
 abbrev pub sizes-of : List ℕ → Result Sizes Refusal
-sizes-of file =
-    cond (no-books file) (Err BookCount)
-    (cond (no-places file) (Err PlaceCount)
-    (Ok (record { books = books-in file; places = places-in file })))
+sizes-of file = cond (no-books file) (Err BookCount) (cond (no-places file) (Err PlaceCount) (Ok (record { books = books-in file; places = places-in file })))
 
--- the row of the place p, its eight bytes: bit i is what book i reads
+-- ---- the rows
+
+-- the row of the place p is the number that its eight bytes write: bit i is what book i reads
 abbrev pub row-at : List ℕ → ℕ → ℕ
 row-at bytes p = little (between (8 * p) (8 * p + 8) bytes)
 
--- the rows of m places, one after the other
+-- the rows of m places, one for each
 abbrev pub rows-in : List ℕ → ℕ → List ℕ
 rows-in bytes m = map (row-at bytes) (counting 0 m)
 
@@ -56,43 +59,39 @@ rows-in bytes m = map (row-at bytes) (counting 0 m)
 abbrev pub known : ℕ → ℕ → Bool
 known n w = eqb (w / 2 ^ n) 0
 
--- no row has a bit set at or above n
-abbrev pub Known : ℕ → List ℕ → Type 0
-Known n rows = (p : ℕ) → p < length rows → getD rows p 0 < 2 ^ n
+-- so it is of each row: a number below 2 ^ n
+abbrev pub All-known : ℕ → List ℕ → Type 0
+All-known n rows = (p : ℕ) → p < length rows → getD rows p 0 < 2 ^ n
 
--- the first row, counted from p, with a bit set at or above n
+-- the first row that is not known, counted from p
 abbrev pub stranger : ℕ → ℕ → List ℕ → Option ℕ
 stranger n p [] = None
 stranger n p (w ∷ rows) = cond (known n w) (stranger n (p + 1) rows) (Some p)
 
--- 4: a place with a book that is not there; else all are known
-abbrev pub if-known : Option ℕ → List ℕ → Result (List ℕ) Refusal
-if-known None bytes = Ok bytes
-if-known (Some p) bytes = Err (UnknownBook p)
+abbrev pub unless-stranger : Option ℕ → List ℕ → Result (List ℕ) Refusal
+unless-stranger None bytes = Ok bytes
+unless-stranger (Some p) bytes = Err (UnknownBook p)
 
--- 3: not eight bytes for each place
+-- the bytes after the sizes, if they are eight for each place and no book in them is a stranger
 abbrev pub bytes-of : List ℕ → Sizes → Result (List ℕ) Refusal
 bytes-of file s =
-    cond (eqb (length file) (3 + 8 * s .places))
-    (if-known (stranger (s .books) 0 (rows-in (drop 3 file) (s .places))) (drop 3 file))
-    (Err (TableLength (length file)))
+    cond (eqb (length file) (3 + 8 * s .places)) (unless-stranger (stranger (s .books) 0 (rows-in (drop 3 file) (s .places))) (drop 3 file)) (Err (TableLength (length file)))
+
+-- ---- the whole file
 
 -- n, and a row for each place
 pub record Contents : Type 0 where
   pub books : ℕ
   pub rows : List ℕ
 
--- what the sizes and the bytes of the rows hold
+-- what sizes and the bytes of the rows come to
 abbrev pub contents : Sizes × RefT (List ℕ) → Contents
 contents (s, bytes) = record { books = s .books; rows = rows-in (now bytes) (s .places) }
 
 -- the next step at what the step before handed on, or its refusal
-abbrev pub after : {X Y : Type 0} → Result X Refusal → (X → Result Y Refusal) → Result Y Refusal
-after (Ok x) next = next x
-after (Err e) next = Err e
+abbrev pub and-then : {X Y : Type 0} → Result X Refusal → (X → Result Y Refusal) → Result Y Refusal
+and-then (Ok x) next = next x
+and-then (Err e) next = Err e
 
 abbrev pub reading : List ℕ → Result Contents Refusal
-reading file =
-    after (sizes-of file)
-    (λ s. after (bytes-of file s)
-    (λ bytes. Ok (record { books = s .books; rows = rows-in bytes (s .places) })))
+reading file = and-then (sizes-of file) (λ s. and-then (bytes-of file s) (λ bytes. Ok (record { books = s .books; rows = rows-in bytes (s .places) })))

@@ -3,7 +3,7 @@ use mathlib.Core.List.{List, [], _∷_}
 use Prim.Native.Nat.{ℕ, zero, suc, _/_, _%_, _<_, _≤_}
 use lib.ListN.{length}
 use Rattle.std.specs.Joined.{joined}
-use Rattle.readings.specs.Files.{Contents, Known}
+use Rattle.readings.specs.Files.{Contents, All-known}
 
 -- the number w in k bytes, the low byte first
 unfoldable pub in-bytes : ℕ → ℕ → List ℕ
@@ -19,4 +19,4 @@ pub record Allowed (c : Contents) : Type 0 where
   pub some : 0 < c .books
   pub few : c .books ≤ 64
   pub short : length (c .rows) ≤ 2048
-  pub known : Known (c .books) (c .rows)
+  pub known : All-known (c .books) (c .rows)

@@ -1,6 +1,6 @@
 // The rows of a table where they lie in its file.
 ghost use Prim.Native.Nat.{_*_, _<_, _≤_};
-ghost use Rattle.readings.specs.Files.{Known, row-at, rows-in};
+ghost use Rattle.readings.specs.Files.{All-known, row-at, rows-in};
 ghost use denote.Ref.{now};
 ghost use lib.Dec.{ltb};
 ghost use lib.ListN.{length};
@@ -19,7 +19,7 @@ pub struct Rows<'a> {
     ghost few: { sizes .books ≤ 64 },
     ghost short: { sizes .places ≤ 2048 },
     ghost whole: { length (now bytes) ≡ 8 * sizes .places },
-    ghost known: { Known (sizes .books) (rows-in (now bytes) (sizes .places)) },
+    ghost known: { All-known (sizes .books) (rows-in (now bytes) (sizes .places)) },
 }
 
 impl Rows<'_> {

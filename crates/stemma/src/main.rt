@@ -7,12 +7,17 @@ use std::io;
 
 const HELP: &str = "usage: stemma TABLE
 
-Reads the table of readings in the file TABLE and prints its sizes:
-  books N, places M      the table can be read
-  refused N at P         it is turned away: rule N of the list, at place P
+Reads the table of readings in the file TABLE and prints one line:
+  books N, places M    the table's sizes
+  refused N at P       why the file is turned away, and where:
+    1 at 0   the number of books is missing, 0 or above 64
+    2 at 1   the number of places is missing or above 2,048
+    3 at L   the file, of L bytes, has not eight bytes for each place
+    4 at P   at the place P a book reads 1 that is not there
 
-Status 0 after the sizes; 1 after a refusal, and where the file can't be read
-(then with a message on standard error).
+The status is 0 after the sizes and 1 after a refusal. It is 1 too where the
+file can't be read or the arguments are wrong: then a line on standard error
+says so, and nothing is printed.
 
   --help      print this text
   --version   print the version

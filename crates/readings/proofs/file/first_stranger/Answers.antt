@@ -1,8 +1,9 @@
-use mathlib.Core.Path.{_≡_, sym, _∙_}
+-- The search for a stranger follows its definition, one row at a time.
+use mathlib.Core.Path.{sym, _∙_}
 use native.Mathlib.Omega.{arith}
 use Rattle.std.proofs.shelf.Lists.{at-drop-all}
 use Rattle.std.proofs.shelf.Tests.{not-true, not-false}
-use Rattle.readings.specs.Files.{known, row-at, rows-in, stranger}
+use Rattle.readings.specs.Files.{known, rows-in, stranger}
 use Rattle.readings.proofs.Files.{all-known, length-rows, stranger-here, stranger-more}
 use Rattle.readings.proofs.file.first_stranger.Needs as need
 

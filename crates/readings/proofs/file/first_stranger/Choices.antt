@@ -1,3 +1,4 @@
+-- What the search for a stranger keeps from place to place.
 use mathlib.Core.Path.{_≡_}
 use lib.ListN.{drop}
 use Rattle.readings.specs.Files.{rows-in, stranger}

@@ -1,3 +1,4 @@
+-- Where 64 books or more are asked for, no book is a stranger.
 use mathlib.Core.Path.{_≡_, sym, ap, _∙_}
 use mathlib.Core.Bool.{not}
 use Prim.Native.Nat.{ℕ, _/_, _^_}
@@ -6,7 +7,7 @@ use native.Mathlib.Nat.{div-eq-of-lt}
 use lib.Dec.{eqb}
 use Rattle.std.proofs.shelf.Tests.{le-ltb}
 use Rattle.readings.proofs.Bits.{pow-mono}
-use Rattle.readings.specs.Files.{known, row-at}
+use Rattle.readings.specs.Files.{known}
 use Rattle.readings.proofs.file.has_stranger.Needs as need
 
 -- no row has a bit at or above 64

@@ -1,3 +1,4 @@
+-- The sum that the library makes of eight bytes is the number that they write.
 use mathlib.Core.Path.{_∙_}
 use Rattle.readings.proofs.Bits.{little-eight}
 use Rattle.readings.proofs.file.row.Needs as need

@@ -1,3 +1,4 @@
+-- What is read was written so.
 use Rattle.readings.proofs.Writing.{only-written}
 use Rattle.readings.proofs.laws.only_written_stands.Needs as need
 

@@ -1,3 +1,4 @@
+-- The bits of a row are the books.
 use Rattle.readings.proofs.Files.{row-bits}
 use Rattle.readings.proofs.laws.row_bits_stands.Needs as need
 

@@ -1,4 +1,5 @@
-use Rattle.readings.proofs.Files.{table-bits}
+-- The table of a file is read off single bits.
+use Rattle.readings.proofs.Tables.{table-bits}
 use Rattle.readings.proofs.laws.table_bits_stands.Needs as need
 
 pub returns : need.returns
