@@ -21,6 +21,6 @@ impl Random {
     }
 
     pub fn coin(&mut self) -> bool {
-        self.next() % 2 == 0
+        self.below(2) == 0
     }
 }

@@ -119,7 +119,7 @@ fn first_stranger(bytes: &[u8], sizes: Sizes) -> Option<u16>
     None
 }
 
-// Whether a book reads 1 at the place p that is none of the first ones. A row has no bit past the 64th, and none may be asked for.
+// Whether a book reads 1 at the place p that is none of so many. No row has a bit past the 64th, and no shift goes that far.
 fn has_stranger(bytes: &[u8], p: u16, books: u8) -> bool
     requires { ⌜ 8 * p + 8 ≤ length (now bytes) ⌝ }
     ensures { λ r. ⌜ r ≡ not (known books (row-at (now (bytes .entry)) p)) ⌝ }

@@ -2,6 +2,7 @@
 use readings::Refusal;
 use readings::Sizes;
 use std::env;
+use std::fmt::Display;
 use std::fs;
 use std::io;
 
@@ -62,13 +63,18 @@ fn requested(rt: &LibcRuntime) -> io::Result<Request> {
     }
 }
 
-// Where standard output can't be written, says so.
-fn written(rt: &LibcRuntime, result: io::Result<()>) -> Result<(), Failed> {
-    let Err(error) = result else {
-        return Ok(());
-    };
-    let _ = eprintln!(rt, "stemma: cannot write the answer: {error}");
+// Says on standard error why there is no answer.
+fn complain(rt: &LibcRuntime, why: impl Display + Drop) -> Result<(), Failed> {
+    let _ = eprintln!(rt, "stemma: {why}");
     Err(Failed)
+}
+
+// What was printed is an answer only if it could be written.
+fn written(rt: &LibcRuntime, result: io::Result<()>) -> Result<(), Failed> {
+    match result {
+        Ok(()) => Ok(()),
+        Err(error) => complain(rt, format_args!("cannot write the answer: {error}")),
+    }
 }
 
 fn show_sizes(rt: &LibcRuntime, sizes: Sizes) -> Result<(), Failed> {
@@ -86,10 +92,7 @@ fn show_refusal(rt: &LibcRuntime, refusal: Refusal) -> Result<(), Failed> {
 fn show_table(rt: &LibcRuntime, path: &str) -> Result<(), Failed> {
     let file = match fs::read(rt, path) {
         Ok(file) => file,
-        Err(error) => {
-            let _ = eprintln!(rt, "stemma: cannot read '{path}': {error}");
-            return Err(Failed);
-        }
+        Err(error) => return complain(rt, format_args!("cannot read '{path}': {error}")),
     };
     match readings::read(file.as_slice()) {
         Ok((sizes, _)) => show_sizes(rt, sizes),
@@ -99,34 +102,27 @@ fn show_table(rt: &LibcRuntime, path: &str) -> Result<(), Failed> {
 
 fn answer(rt: &LibcRuntime, request: Request) -> Result<(), Failed> {
     match request {
-        Request::Help => return written(rt, print!(rt, "{HELP}")),
-        Request::Version => return written(rt, println!(rt, "{VERSION}")),
-        Request::Table(path) => return show_table(rt, path.as_str()),
-        Request::Nothing => {
-            let _ = eprintln!(rt, "stemma: no file is named (try stemma --help)");
-        }
-        Request::Unknown(word) => {
-            let _ = eprintln!(rt, "stemma: unknown option '{word}' (try stemma --help)");
-        }
-        Request::TooMuch(word) => {
-            let _ = eprintln!(
-                rt,
-                "stemma: one file is read, not also '{word}' (try stemma --help)"
-            );
-        }
+        Request::Help => written(rt, print!(rt, "{HELP}")),
+        Request::Version => written(rt, println!(rt, "{VERSION}")),
+        Request::Table(path) => show_table(rt, path.as_str()),
+        Request::Nothing => complain(rt, "no file is named (try stemma --help)"),
+        Request::Unknown(word) => complain(
+            rt,
+            format_args!("unknown option '{word}' (try stemma --help)"),
+        ),
+        Request::TooMuch(word) => complain(
+            rt,
+            format_args!("one file is read, not also '{word}' (try stemma --help)"),
+        ),
     }
-    Err(Failed)
 }
 
 fn main(rt: LibcRuntime) -> Result<(), Failed> {
     match requested(&rt) {
         Ok(request) => answer(&rt, request),
-        Err(error) => {
-            let _ = eprintln!(
-                rt,
-                "stemma: cannot read the arguments, which have to be UTF-8: {error}"
-            );
-            Err(Failed)
-        }
+        Err(error) => complain(
+            &rt,
+            format_args!("cannot read the arguments, which have to be UTF-8: {error}"),
+        ),
     }
 }
