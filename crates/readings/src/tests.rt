@@ -7,36 +7,8 @@ use crate::read_rows;
 use crate::read_sizes;
 use std::test::*;
 
-// Four books and three places, whose sets are 1 2, then 2, then 3.
-const FIRST: [u8; 27] = [
-    4,
-    3,
-    0, // sizes
-    6,
-    0,
-    0,
-    0,
-    0,
-    0,
-    0,
-    0, // books 1 and 2
-    4,
-    0,
-    0,
-    0,
-    0,
-    0,
-    0,
-    0, // book 2
-    8,
-    0,
-    0,
-    0,
-    0,
-    0,
-    0,
-    0, // book 3
-];
+// Four books and three places, whose rows have the books 1 and 2, then 2, then 3.
+const FIRST: &[u8; 27] = b"\x04\x03\0\x06\0\0\0\0\0\0\0\x04\0\0\0\0\0\0\0\x08\0\0\0\0\0\0\0";
 
 // The number and the place of the refusal, or 0 and the number of places.
 fn said(file: &[u8]) -> (u8, usize) {
@@ -63,10 +35,10 @@ fn row_or(file: &[u8], p: u16, other: u64) -> u64 {
 
 #[test]
 fn reads_the_first_table() -> Result<(), Fail> {
-    check_eq(said(&FIRST), (0, 3))?;
-    check_eq(row_or(&FIRST, 0, 1), 6)?;
-    check_eq(row_or(&FIRST, 2, 1), 8)?;
-    check_eq(row_or(&FIRST, 3, 1), 0)
+    check_eq(said(FIRST), (0, 3))?;
+    check_eq(row_or(FIRST, 0, 1), 6)?;
+    check_eq(row_or(FIRST, 2, 1), 8)?;
+    check_eq(row_or(FIRST, 3, 1), 0)
 }
 
 #[test]
@@ -81,14 +53,35 @@ fn refuses_sizes() -> Result<(), Fail> {
 #[test]
 fn refuses_rows() -> Result<(), Fail> {
     check_eq(said(&[64, 0, 8]), (3, 3))?;
-    check_eq(said(&FIRST[0..26]), (3, 26))?;
-    let mut strange = FIRST;
-    strange[11] = 16;
-    check_eq(said(&strange), (4, 1))
+    let mut file = *FIRST;
+    check_eq(said(&file[0..26]), (3, 26))?;
+    file[11] = 16;
+    check_eq(said(&file), (4, 1))
 }
 
+// Each refusal in the order of the list, with a place of its own where it has one.
+const LIST: [Refusal; 10] = [
+    Refusal::BookCount,
+    Refusal::PlaceCount,
+    Refusal::TableLength(103),
+    Refusal::UnknownBook(104),
+    Refusal::NodeCount(105),
+    Refusal::NoSmaller(106),
+    Refusal::BadHome(107),
+    Refusal::BadChange(108),
+    Refusal::TreeLength(109),
+    Refusal::Room(Lent::Homes),
+];
+
+const PLACES: [usize; 10] = [0, 1, 103, 104, 105, 106, 107, 108, 109, 2];
+
 #[test]
-fn numbers_the_slices() -> Result<(), Fail> {
-    check_eq(Refusal::Room(Lent::Homes).number(), 10)?;
-    check_eq(Refusal::Room(Lent::Homes).place(), 2)
+fn numbers_the_list() -> Result<(), Fail> {
+    for k in 0..10 {
+        let refusal = LIST[k];
+        check_eq(refusal.number() as usize, k + 1)?;
+        check_eq(refusal.place(), PLACES[k])?;
+    }
+    check_eq(Refusal::Room(Lent::Sets).place(), 0)?;
+    check_eq(Refusal::Room(Lent::Nodes).place(), 1)
 }
