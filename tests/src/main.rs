@@ -6,6 +6,7 @@
 //! outside write-demo DEMO   write the files in DEMO anew
 //! ```
 
+mod cases;
 mod commands;
 mod demo;
 mod files;
@@ -48,10 +49,7 @@ fn write_demo(dir: &Path) -> ExitCode {
     match demo::write(dir) {
         Ok(()) => ExitCode::SUCCESS,
         Err(error) => {
-            eprintln!(
-                "outside: cannot write the files in {}: {error}",
-                dir.display()
-            );
+            eprintln!("outside: cannot write the files in {}: {error}", dir.display());
             ExitCode::FAILURE
         }
     }

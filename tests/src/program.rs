@@ -33,18 +33,9 @@ impl Program {
     pub fn table(&self, file: &[u8], expected: Said) -> Option<String> {
         let path = self.scratch.join("table");
         fs::write(&path, file).expect("a file to read");
-        let output = self
-            .command()
-            .arg(&path)
-            .output()
-            .expect("the program runs");
-        differs(&output, expected.text().as_bytes(), expected.status()).map(|difference| {
-            format!(
-                "{difference}, of a file of {} bytes: {}",
-                file.len(),
-                shown(file)
-            )
-        })
+        let output = self.command().arg(&path).output().expect("the program runs");
+        differs(&output, expected.text().as_bytes(), expected.status())
+            .map(|difference| format!("{difference}, of a file of {} bytes: {}", file.len(), shown(file)))
     }
 }
 
@@ -76,18 +67,11 @@ pub fn fails_otherwise(output: &Output, words: &[&str]) -> Option<String> {
     if output.stdout.is_empty() && one_line && named && output.status.code() == Some(1) {
         return None;
     }
-    Some(format!(
-        "expected one line with {words:?} and status 1, got {error:?} and {}",
-        output.status
-    ))
+    Some(format!("expected one line with {words:?} and status 1, got {error:?} and {}", output.status))
 }
 
 /// The first bytes of a file.
 fn shown(file: &[u8]) -> String {
-    let bytes: Vec<String> = file
-        .iter()
-        .take(48)
-        .map(|byte| format!("{byte:02x}"))
-        .collect();
+    let bytes: Vec<String> = file.iter().take(48).map(|byte| format!("{byte:02x}")).collect();
     bytes.join(" ")
 }

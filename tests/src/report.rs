@@ -12,10 +12,7 @@ pub struct Report {
 
 impl Report {
     pub fn new() -> Report {
-        Report {
-            passed: 0,
-            failed: 0,
-        }
+        Report { passed: 0, failed: 0 }
     }
 
     /// One test, which looked at so many cases and found these differences. A test that looked at none has failed.

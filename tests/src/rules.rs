@@ -23,7 +23,11 @@ impl Said {
     }
 }
 
-fn refused(number: usize, place: usize) -> Said {
+pub fn sizes(books: usize, places: usize) -> Said {
+    Said::Sizes { books, places }
+}
+
+pub fn refused(number: usize, place: usize) -> Said {
     Said::Refused { number, place }
 }
 
@@ -53,5 +57,5 @@ pub fn said_of(file: &[u8]) -> Said {
             }
         }
     }
-    Said::Sizes { books, places }
+    sizes(books, places)
 }

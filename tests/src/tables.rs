@@ -1,135 +1,19 @@
-//! Files of tables: the worked ones, each refusal with its neighbours, every short length, and random damage.
+//! Runs over files of tables: the named ones, every short length, each unknown book, the largest, and random damage.
 
+use crate::cases;
 use crate::demo;
 use crate::files::{head, Table};
 use crate::program::Program;
 use crate::random::Random;
 use crate::report::Report;
-use crate::rules::{said_of, Said};
-
-fn refused(number: usize, place: usize) -> Said {
-    Said::Refused { number, place }
-}
+use crate::rules::{refused, said_of, sizes};
 
 /// Files by name, with the answer written out. The rules read once more have to give the same.
 pub fn named(report: &mut Report, stemma: &Program) {
-    let first = Table::of_sets(4, &[&[1, 2], &[2], &[3]]).file();
-    let with = |places: &[(usize, u8)]| {
-        let mut file = first.clone();
-        places.iter().for_each(|&(at, byte)| file[at] = byte);
-        file
-    };
-    let joined = |parts: &[&[u8]]| parts.concat();
-    let cases: Vec<(&str, Vec<u8>, Said)> = vec![
-        (
-            "the first table",
-            first.clone(),
-            Said::Sizes {
-                books: 4,
-                places: 3,
-            },
-        ),
-        (
-            "one book and no place",
-            head(1, 0),
-            Said::Sizes {
-                books: 1,
-                places: 0,
-            },
-        ),
-        (
-            "64 books, all of them in one row",
-            joined(&[&head(64, 1), &[255; 8]]),
-            Said::Sizes {
-                books: 64,
-                places: 1,
-            },
-        ),
-        (
-            "one book, which reads 1",
-            joined(&[&head(1, 1), &[1, 0, 0, 0, 0, 0, 0, 0]]),
-            Said::Sizes {
-                books: 1,
-                places: 1,
-            },
-        ),
-        ("an empty file", vec![], refused(1, 0)),
-        ("no books", with(&[(0, 0)]), refused(1, 0)),
-        ("65 books", with(&[(0, 65)]), refused(1, 0)),
-        ("255 books", with(&[(0, 255)]), refused(1, 0)),
-        ("no books and too many places", vec![0, 1, 8], refused(1, 0)),
-        ("no books and no number of places", vec![0], refused(1, 0)),
-        (
-            "65 books and a wrong length",
-            vec![65, 1, 0, 9],
-            refused(1, 0),
-        ),
-        (
-            "65 books and a row of them",
-            joined(&[&head(65, 1), &[255; 8]]),
-            refused(1, 0),
-        ),
-        ("no number of places", vec![4], refused(2, 1)),
-        ("half a number of places", vec![4, 0], refused(2, 1)),
-        ("2,049 places", head(4, 2049), refused(2, 1)),
-        (
-            "2,049 places, all there",
-            joined(&[&head(4, 2049), &vec![0; 8 * 2049]]),
-            refused(2, 1),
-        ),
-        (
-            "too many places and a wrong length",
-            joined(&[&head(4, 65535), &[0; 9]]),
-            refused(2, 1),
-        ),
-        (
-            "too many places and an unknown book",
-            joined(&[&head(4, 4096), &[255; 8]]),
-            refused(2, 1),
-        ),
-        (
-            "256 places, as the two bytes turned round have it",
-            joined(&[&head(4, 1), &vec![0; 8 * 256]]),
-            refused(3, 3 + 8 * 256),
-        ),
-        (
-            "2,048 places and none of them there",
-            head(4, 2048),
-            refused(3, 3),
-        ),
-        ("a byte too few", first[..26].to_vec(), refused(3, 26)),
-        ("a byte too many", joined(&[&first, &[0]]), refused(3, 28)),
-        ("a place too few", first[..19].to_vec(), refused(3, 19)),
-        (
-            "a place too many",
-            joined(&[&first, &[0; 8]]),
-            refused(3, 35),
-        ),
-        (
-            "a wrong length and an unknown book",
-            joined(&[&with(&[(3, 16)]), &[0]]),
-            refused(3, 28),
-        ),
-        (
-            "an unknown book, the next one",
-            with(&[(3, 16)]),
-            refused(4, 0),
-        ),
-        (
-            "an unknown book, the last that a row has",
-            with(&[(26, 128)]),
-            refused(4, 2),
-        ),
-        (
-            "unknown books at two places",
-            with(&[(12, 1), (20, 1)]),
-            refused(4, 1),
-        ),
-    ];
-    for (name, file, expected) in &cases {
-        let mut differences: Vec<String> = stemma.table(file, *expected).into_iter().collect();
-        if said_of(file) != *expected {
-            differences.push(format!("the rules read once more say {:?}", said_of(file)));
+    for (name, file, expected) in cases::all() {
+        let mut differences: Vec<String> = stemma.table(&file, expected).into_iter().collect();
+        if said_of(&file) != expected {
+            differences.push(format!("the rules read once more say {:?}", said_of(&file)));
         }
         report.test(name, 1, &differences);
     }
@@ -152,12 +36,7 @@ pub fn lengths(report: &mut Report, stemma: &Program) {
     }
     files.sort();
     files.dedup();
-    sweep(
-        report,
-        stemma,
-        "every length from 0 to 40 bytes, for sizes around the limits",
-        files,
-    );
+    sweep(report, stemma, "every length from 0 to 40 bytes, for sizes around the limits", files);
 }
 
 /// For each number of books, a row with the last book that is there or one that is not, at each of three places.
@@ -172,12 +51,7 @@ pub fn strangers(report: &mut Report, stemma: &Program) {
             }
         }
     }
-    sweep(
-        report,
-        stemma,
-        "the last known and the first unknown book, for each number of books",
-        files,
-    );
+    sweep(report, stemma, "the last known and the first unknown book, for each number of books", files);
 }
 
 /// The largest table, whole, a byte off, and with a stranger at its last place only.
@@ -193,28 +67,13 @@ pub fn largest(report: &mut Report, stemma: &Program) {
     let short = full[..full.len() - 1].to_vec();
     let long = [&full[..], &[0]].concat();
     let expected = [
-        (
-            full,
-            Said::Sizes {
-                books: 64,
-                places: 2048,
-            },
-        ),
-        (
-            known,
-            Said::Sizes {
-                books: 63,
-                places: 2048,
-            },
-        ),
+        (full, sizes(64, 2048)),
+        (known, sizes(63, 2048)),
         (strange, refused(4, 2047)),
         (short, refused(3, 3 + 8 * 2048 - 1)),
         (long, refused(3, 3 + 8 * 2048 + 1)),
     ];
-    let differences: Vec<String> = expected
-        .iter()
-        .filter_map(|(file, said)| stemma.table(file, *said))
-        .collect();
+    let differences: Vec<String> = expected.iter().filter_map(|(file, said)| stemma.table(file, *said)).collect();
     report.test("the largest table", expected.len(), &differences);
 }
 
@@ -245,19 +104,10 @@ fn damage(random: &mut Random) -> Vec<u8> {
 
 /// One test over many files, each answered as the rules read once more say. Both kinds of answer have to occur.
 fn sweep(report: &mut Report, stemma: &Program, name: &str, files: Vec<Vec<u8>>) {
-    let mut differences: Vec<String> = files
-        .iter()
-        .filter_map(|file| stemma.table(file, said_of(file)))
-        .collect();
-    let taken = files
-        .iter()
-        .filter(|file| said_of(file).status() == 0)
-        .count();
+    let mut differences: Vec<String> = files.iter().filter_map(|file| stemma.table(file, said_of(file))).collect();
+    let taken = files.iter().filter(|file| said_of(file).status() == 0).count();
     if taken == 0 || taken == files.len() {
-        differences.push(format!(
-            "{taken} of {} files are within the rules",
-            files.len()
-        ));
+        differences.push(format!("{taken} of {} files are within the rules", files.len()));
     }
     report.test(name, files.len(), &differences);
 }

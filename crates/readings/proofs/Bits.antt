@@ -41,12 +41,6 @@ shr-none w n e =
     let g = mod-lt w (pow-pos n) in
     omega arith
 
-pub shr-some : (w n : ℕ) → (w / 2 ^ n ≡ 0 → ⊥) → 2 ^ n ≤ w
-shr-some w n ne = by-lt (λ l. ne (div-eq-of-lt l))
-  where
-    by-lt : (w < 2 ^ n → ⊥) → 2 ^ n ≤ w
-    by-lt f = omega arith
-
 -- ---- single bits
 
 pub bit-zero : (w : ℕ) → bit w 0 ≡ eqb (w % 2) 1

@@ -2,7 +2,7 @@
 use mathlib.Core.Path.{_≡_, refl, sym, ap, ap₂, _∙_}
 use mathlib.Core.Bool.{Bool, true, false, cond}
 use mathlib.Core.List.{List, [], _∷_}
-use Prim.Native.Nat.{ℕ, zero, suc, _+_, _-_, _*_, _<_}
+use Prim.Native.Nat.{ℕ, zero, suc, _+_, _-_, _*_, _^_, _<_}
 use native.Mathlib.Nat.{div-eq-of-lt}
 use native.Mathlib.Omega.{arith}
 use lib.Dec.{eqb}
@@ -67,17 +67,23 @@ module _ (n p m : ℕ) (bytes : List ℕ) (l : p < m) where
 
 -- ---- no stranger
 
-known-from : (n p : ℕ) (rows : List ℕ) → stranger n p rows ≡ None → All-known n rows
+known-from : (n p : ℕ) (rows : List ℕ) → stranger n p rows ≡ None → (q : ℕ) → q < length rows → getD rows q 0 < 2 ^ n
 known-from n p [] e q l = absurd (omega arith)
 known-from n p (w ∷ rows) e q l = by (known n w) refl (λ f. known-from n (p + 1) rows f) q l
   where
-    by : (b : Bool) → known n w ≡ b → (stranger n (p + 1) rows ≡ None → All-known n rows) → All-known n (w ∷ rows)
+    by : (b : Bool) → known n w ≡ b → (stranger n (p + 1) rows ≡ None → (q : ℕ) → q < length rows → getD rows q 0 < 2 ^ n)
+        → (q : ℕ) → q < length (w ∷ rows) → getD (w ∷ rows) q 0 < 2 ^ n
     by true t rest zero l = shr-none w n (eqb-true _ _ t)
     by true t rest (suc q) l = rest (cc) q (omega arith)
     by false t rest q l = let f : Some p ≡ None = cc in let y : _≡_ {A = ℕ} 0 1 = cc in absurd (omega arith)
 
-pub all-known : (n : ℕ) (rows : List ℕ) → stranger n 0 rows ≡ None → All-known n rows
-all-known n rows = known-from n 0 rows
+pub rows-known : (n : ℕ) (rows : List ℕ) → stranger n 0 rows ≡ None → (p : ℕ) → p < length rows → getD rows p 0 < 2 ^ n
+rows-known n rows = known-from n 0 rows
+
+pub all-known : (n m : ℕ) (bytes : List ℕ) → stranger n 0 (rows-in bytes m) ≡ None → All-known n m bytes
+all-known n m bytes e p l =
+    let many = length-rows bytes m in
+    rw getD-rows at (rows-known n (rows-in bytes m) e p (omega arith))
 
 -- ---- a file that is read
 

@@ -16,11 +16,11 @@ use Rattle.std.proofs.shelf.Tests.{cond-true, cond-false, eq-eqb, ne-eqb, le-lt
 use Rattle.std.specs.declared.option.Option.the-variants.{None}
 use Rattle.std.specs.declared.result.Result.the-variants.{Ok}
 use Rattle.readings.specs.declared.file.Sizes.{Sizes}
-use Rattle.readings.specs.Files.{All-known, and-then, books-in, bytes-of, unless-stranger, known, no-books, no-places, places-in, row-at, rows-in, sizes-of, stranger}
+use Rattle.readings.specs.Files.{and-then, books-in, bytes-of, unless-stranger, known, no-books, no-places, places-in, row-at, rows-in, sizes-of, stranger}
 use Rattle.readings.specs.Statements.{Reads-back, Only-written}
 use Rattle.readings.specs.Writing.{file-of, in-bytes}
 use Rattle.readings.proofs.Bits.{bytes-drop, bytes-take, pow-mono}
-use Rattle.readings.proofs.Files.{all-known, length-rows, row-eight, taken}
+use Rattle.readings.proofs.Files.{rows-known, length-rows, row-eight, taken}
 
 -- ---- numbers in bytes
 
@@ -103,7 +103,7 @@ joined-rows (suc m) bytes small h =
 
 -- ---- what is written is read
 
-no-stranger : (n p : ℕ) (rows : List ℕ) → All-known n rows → stranger n p rows ≡ None
+no-stranger : (n p : ℕ) (rows : List ℕ) → ((q : ℕ) → q < length rows → getD rows q 0 < 2 ^ n) → stranger n p rows ≡ None
 no-stranger n p [] h = refl
 no-stranger n p (w ∷ rows) h =
     cond-true (known n w) _ _ (eq-eqb (w / 2 ^ n) 0 (div-eq-of-lt (h 0 (omega arith))))
@@ -166,7 +166,7 @@ only-written file c small e =
         some = omega (arith, some);
         few = omega arith;
         short = omega arith;
-        known = rw (n-is, t .rows-are) (all-known (books-in file) (rows-in (drop 3 file) (places-in file)) (t .none));
+        known = rw (n-is, t .rows-are) (rows-known (books-in file) (rows-in (drop 3 file) (places-in file)) (t .none));
       },
       begins file (omega arith) ∙ cc,
     )

@@ -3,7 +3,7 @@
 --   no-books, no-places    whether they are missing or outside their limits
 --   sizes-of               the sizes, or the refusal on their account
 --   row-at, rows-in        the row of one place, and of each
---   known, All-known       whether each book that reads 1 is there, in a row and in all
+--   known, All-known       whether each book that reads 1 is there, in a row and at all places
 --   stranger               the first place with a book that is not there
 --   bytes-of               the bytes of the rows, or the refusal on their account
 --   Contents, reading      what a whole file holds, or the first refusal of the list
@@ -59,9 +59,9 @@ rows-in bytes m = map (row-at bytes) (counting 0 m)
 abbrev pub known : ℕ → ℕ → Bool
 known n w = eqb (w / 2 ^ n) 0
 
--- so it is of each row: a number below 2 ^ n
-abbrev pub All-known : ℕ → List ℕ → Type 0
-All-known n rows = (p : ℕ) → p < length rows → getD rows p 0 < 2 ^ n
+-- so it is at each of m places: the row is below 2 ^ n
+abbrev pub All-known : ℕ → ℕ → List ℕ → Type 0
+All-known n m bytes = (p : ℕ) → p < m → row-at bytes p < 2 ^ n
 
 -- the first row that is not known, counted from p
 abbrev pub stranger : ℕ → ℕ → List ℕ → Option ℕ

@@ -1,9 +1,9 @@
 -- How a table is written into a file, and so which files hold one. Assumes nothing: these are definitions.
 use mathlib.Core.List.{List, [], _∷_}
-use Prim.Native.Nat.{ℕ, zero, suc, _/_, _%_, _<_, _≤_}
-use lib.ListN.{length}
+use Prim.Native.Nat.{ℕ, zero, suc, _/_, _%_, _^_, _<_, _≤_}
+use lib.ListN.{length, getD}
 use Rattle.std.specs.Joined.{joined}
-use Rattle.readings.specs.Files.{Contents, All-known}
+use Rattle.readings.specs.Files.{Contents}
 
 -- the number w in k bytes, the low byte first
 unfoldable pub in-bytes : ℕ → ℕ → List ℕ
@@ -19,4 +19,4 @@ pub record Allowed (c : Contents) : Type 0 where
   pub some : 0 < c .books
   pub few : c .books ≤ 64
   pub short : length (c .rows) ≤ 2048
-  pub known : All-known (c .books) (c .rows)
+  pub known : (p : ℕ) → p < length (c .rows) → getD (c .rows) p 0 < 2 ^ c .books

@@ -73,7 +73,7 @@ fn places_of(file: &[u8]) -> Option<u16>
 pub fn read_rows(file: &[u8], sizes: Sizes) -> Result<&[u8], Refusal>
     ensures value { λ r. ⌜ mapped now (λ e. e) r ≡ bytes-of (now (file .entry)) sizes ⌝ }
     ensures whole { λ r. ⌜ made r (λ bytes. length (now bytes) ≡ 8 * sizes .places) ⌝ }
-    ensures known { λ r. ⌜ made r (λ bytes. All-known (sizes .books) (rows-in (now bytes) (sizes .places))) ⌝ }
+    ensures known { λ r. ⌜ made r (λ bytes. All-known (sizes .books) (sizes .places) (now bytes)) ⌝ }
 {
     let Some(bytes) = rows_part(file, sizes.places) else {
         return Err(Refusal::TableLength(file.len()));
@@ -109,7 +109,7 @@ fn rows_part(file: &[u8], places: u16) -> Option<&[u8]>
 fn first_stranger(bytes: &[u8], sizes: Sizes) -> Option<u16>
     requires { ⌜ length (now bytes) ≡ 8 * sizes .places ⌝ }
     ensures value { λ r. ⌜ r ≡ stranger (sizes .books) 0 (rows-in (now (bytes .entry)) (sizes .places)) ⌝ }
-    ensures known { λ r. ⌜ (r ≡ None → All-known (sizes .books) (rows-in (now (bytes .entry)) (sizes .places))) ⌝ }
+    ensures known { λ r. ⌜ (r ≡ None → All-known (sizes .books) (sizes .places) (now (bytes .entry))) ⌝ }
 {
     for p in 0..sizes.places {
         if has_stranger(bytes, p, sizes.books) {

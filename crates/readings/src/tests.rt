@@ -18,27 +18,28 @@ fn said(file: &[u8]) -> (u8, usize) {
     }
 }
 
-// The row of a place, through the view that spares the checks.
-fn row(file: &[u8], p: u16) -> Result<u64, Refusal> {
+// The sizes and the row of a place, through the view that spares the checks.
+fn view(file: &[u8], p: u16) -> Result<(u8, u16, u64), Refusal> {
     let sizes = read_sizes(file)?;
     let bytes = read_rows(file, sizes)?;
     let rows = Rows { sizes, bytes };
-    Ok(rows.row(p))
+    Ok((rows.books(), rows.places(), rows.row(p)))
 }
 
-fn row_or(file: &[u8], p: u16, other: u64) -> u64 {
-    match row(file, p) {
-        Ok(row) => row,
-        Err(_) => other,
+// The same, or zeros for a file that is turned away.
+fn seen(file: &[u8], p: u16) -> (u8, u16, u64) {
+    match view(file, p) {
+        Ok(seen) => seen,
+        Err(_) => (0, 0, 0),
     }
 }
 
 #[test]
 fn reads_the_first_table() -> Result<(), Fail> {
     check_eq(said(FIRST), (0, 3))?;
-    check_eq(row_or(FIRST, 0, 1), 6)?;
-    check_eq(row_or(FIRST, 2, 1), 8)?;
-    check_eq(row_or(FIRST, 3, 1), 0)
+    check_eq(seen(FIRST, 0), (4, 3, 6))?;
+    check_eq(seen(FIRST, 2), (4, 3, 8))?;
+    check_eq(seen(FIRST, 3), (4, 3, 0))
 }
 
 #[test]

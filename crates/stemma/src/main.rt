@@ -92,7 +92,7 @@ fn show_refusal(rt: &LibcRuntime, refusal: Refusal) -> Result<(), Failed> {
 fn show_table(rt: &LibcRuntime, path: &str) -> Result<(), Failed> {
     let file = match fs::read(rt, path) {
         Ok(file) => file,
-        Err(error) => return complain(rt, format_args!("cannot read '{path}': {error}")),
+        Err(error) => return complain(rt, format_args!("cannot read {path:?}: {error}")),
     };
     match readings::read(file.as_slice()) {
         Ok((sizes, _)) => show_sizes(rt, sizes),
@@ -108,11 +108,11 @@ fn answer(rt: &LibcRuntime, request: Request) -> Result<(), Failed> {
         Request::Nothing => complain(rt, "no file is named (try stemma --help)"),
         Request::Unknown(word) => complain(
             rt,
-            format_args!("unknown option '{word}' (try stemma --help)"),
+            format_args!("unknown option {word:?} (try stemma --help)"),
         ),
         Request::TooMuch(word) => complain(
             rt,
-            format_args!("one file is read, not also '{word}' (try stemma --help)"),
+            format_args!("one file is read, not also {word:?} (try stemma --help)"),
         ),
     }
 }

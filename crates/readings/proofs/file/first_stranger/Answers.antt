@@ -13,7 +13,7 @@ returns-then-has-stranger c =
     let value =
     sym (stranger-here n (c .loop-p .p) (c .args .sizes .places) (c .args .bytes .now) (c .loop-p-test .taken) (not-true _ (sym (c .if-has-stranger .ensures tt))))
     ∙ c .loop-p .inv in
-    record { value = value; known = λ e. all-known n _ (sym value ∙ e) }
+    record { value = value; known = λ e. all-known n (c .args .sizes .places) (c .args .bytes .now) (sym value ∙ e) }
 
 pub loop-p-again : need.loop-p-again
 loop-p-again c =
@@ -25,4 +25,4 @@ returns c =
     let rows = rows-in (c .args .bytes .now) (c .args .sizes .places) in
     let e = length-rows (c .args .bytes .now) (c .args .sizes .places) in
     let value = sym (at-drop-all (stranger (c .args .sizes .books) (c .loop-p .p)) rows (c .loop-p .p) (omega arith)) ∙ c .loop-p .inv in
-    record { value = value; known = λ _. all-known (c .args .sizes .books) rows (sym value) }
+    record { value = value; known = λ _. all-known (c .args .sizes .books) (c .args .sizes .places) (c .args .bytes .now) (sym value) }
