@@ -11,6 +11,7 @@ use lib.ListN.{length, getD, take, drop}
 use Rattle.std.proofs.shelf.Bits.{pow-pos, shr-shr, shr-split}
 use Rattle.std.proofs.shelf.Lists.{getD-drop}
 use Rattle.std.proofs.shelf.Tests.{cases-eq, eqb-false}
+use Rattle.std.proofs.shelf.Ways.{tells}
 use Rattle.readings.specs.Bits.{Bytes, bit, little}
 
 -- ---- eight bytes
@@ -71,6 +72,18 @@ bit-low (suc k) x y (suc i) l =
     let e = ap (λ (n : ℕ). n * y) (pow-succ' 2 k) ∙ mul-assoc 2 (2 ^ k) y in
     let half : (x + 2 ^ suc k * y) / 2 ≡ x / 2 + 2 ^ k * y = omega arith in
     bit-suc (x + 2 ^ suc k * y) i ∙ ap (λ (n : ℕ). bit n i) half ∙ bit-low k (x / 2) y i (omega arith) ∙ sym (bit-suc x i)
+
+-- numbers with the same bits are the same
+pub bits-equal : (k a b : ℕ) → a < 2 ^ k → b < 2 ^ k → ((i : ℕ) → i < k → bit a i ≡ bit b i) → a ≡ b
+bits-equal zero a b h l same = omega arith
+bits-equal (suc k) a b h l same =
+    let e = pow-succ' 2 k in
+    let high = bits-equal k (a / 2) (b / 2) (omega arith) (omega arith) (λ i g. sym (bit-suc a i) ∙ same (suc i) (omega arith) ∙ bit-suc b i) in
+    let low = digit (a % 2) (b % 2) (omega arith) (omega arith) (sym (bit-zero a) ∙ same 0 (omega arith) ∙ bit-zero b) in
+    omega arith
+  where
+    digit : (u v : ℕ) → u < 2 → v < 2 → eqb u 1 ≡ eqb v 1 → u ≡ v
+    digit u v h l e = grind (arith, tells)
 
 -- ---- bytes
 

@@ -1,0 +1,4 @@
+pub mod Cited
+pub mod Sets
+pub mod Statements
+pub mod Tables
