@@ -1,4 +1,4 @@
-// The books of a set: which, how many, one more.
+// The books of a set: whether one is in it and how many are; the set of one book, and of two sets together.
 ghost use Prim.Native.Nat.{_≤_};
 ghost use Rattle.readings.specs.Bits.{bit};
 ghost use Rattle.sets.specs.Sets.{Members, either, size-of};

@@ -4,6 +4,7 @@ use crate::are_equal;
 use crate::fill;
 use crate::has;
 use crate::is_among;
+use crate::set_at;
 use crate::set_of;
 use crate::single;
 use crate::size;
@@ -116,22 +117,37 @@ fn finds_the_smallest() -> Result<(), Fail> {
 // Four books and two places, at which books 1 and 2, and books 0 and 3, read 1.
 const FILE: &[u8; 19] = b"\x04\x02\0\x06\0\0\0\0\0\0\0\x09\0\0\0\0\0\0\0";
 
-// Writes the sets of the file into memory, and says the number and the place of the refusal, or zeros.
-fn filled(memory: &mut [u64]) -> Result<(u8, usize), Refusal> {
+// The set of a place of the file.
+fn set_in_file(p: u16) -> Result<u64, Refusal> {
     let sizes = read_sizes(FILE)?;
     let bytes = read_rows(FILE, sizes)?;
-    match fill(Rows { sizes, bytes }, memory) {
-        Ok(()) => Ok((0, 0)),
-        Err(refusal) => Ok((refusal.number(), refusal.place())),
+    Ok(set_at(Rows { sizes, bytes }, p))
+}
+
+// Writes the sets of the file into memory.
+fn filled(memory: &mut [u64]) -> Result<u8, Refusal> {
+    let sizes = read_sizes(FILE)?;
+    let bytes = read_rows(FILE, sizes)?;
+    fill(Rows { sizes, bytes }, memory)?;
+    Ok(0)
+}
+
+// What is given, or the number of the refusal.
+fn said(given: Result<u8, Refusal>) -> u8 {
+    match given {
+        Ok(given) => given,
+        Err(refusal) => refusal.number(),
     }
 }
 
 #[test]
 fn fills_lent_memory() -> Result<(), Fail> {
     let mut memory = [7; 3];
-    check_eq(filled(&mut memory).unwrap_or((0, 1)), (0, 0))?;
-    check_eq((memory[0], memory[1], memory[2]), (6, 6, 7))?;
+    check_eq(said(filled(&mut memory)), 0)?;
+    check_eq(memory, [6, 6, 7])?;
     let mut short = [7; 1];
-    check_eq(filled(&mut short).unwrap_or((0, 1)), (10, 0))?;
-    check_eq(short[0], 7)
+    check_eq(said(filled(&mut short)), 10)?;
+    check_eq(short, [7])?;
+    check_eq(set_in_file(1).unwrap_or(1), 6)?;
+    check_eq(set_in_file(2).unwrap_or(1), 0)
 }
