@@ -1,15 +1,16 @@
 -- What holds of a table's file as it is read.
 use mathlib.Core.Path.{_≡_, refl, sym, ap, ap₂, _∙_}
+use mathlib.Core.Logic.{inl, inr}
 use mathlib.Core.Bool.{Bool, true, false, cond}
 use mathlib.Core.List.{List, [], _∷_}
 use Prim.Native.Nat.{ℕ, zero, suc, _+_, _-_, _*_, _^_, _<_}
 use native.Mathlib.Nat.{div-eq-of-lt}
 use native.Mathlib.Omega.{arith}
-use lib.Dec.{eqb}
+use lib.Dec.{eqb, ltb}
 use lib.ListN.{length, getD, take, drop}
-use Rattle.std.proofs.shelf.Lists.{at-drop-more, getD-drop, getD-take}
+use Rattle.std.proofs.shelf.Lists.{at-drop-more, getD-drop, getD-past, getD-take}
 use Rattle.std.proofs.shelf.Counted.{getD-map-counting, length-map-counting}
-use Rattle.std.proofs.shelf.Tests.{eq-eqb, eqb-true}
+use Rattle.std.proofs.shelf.Tests.{cases-lt, cond-above, cond-below, eq-eqb, eqb-true}
 use Rattle.std.specs.declared.result.Result.{Result}
 use Rattle.std.specs.declared.result.Result.the-variants.{Ok, Err}
 use Rattle.std.specs.declared.option.Option.{Option}
@@ -29,6 +30,15 @@ length-rows bytes m = length-map-counting (row-at bytes) 0 m
 
 pub getD-rows : (bytes : List ℕ) (m p : ℕ) → p < m → getD (rows-in bytes m) p 0 ≡ row-at bytes p
 getD-rows bytes m p h = getD-map-counting (row-at bytes) 0 m p p 0 h (omega arith)
+
+-- past the last place the row is 0
+pub row-or-none : (bytes : List ℕ) (m p : ℕ) → cond (ltb p m) (row-at bytes p) 0 ≡ getD (rows-in bytes m) p 0
+row-or-none bytes m p =
+    let many = length-rows bytes m in
+    elim (cases-lt p m) [
+      | inl l ↦ (sym (cond-below p m (row-at bytes p) 0 l) ∙ sym (getD-rows bytes m p l))
+      | inr l ↦ (sym (cond-above p m (row-at bytes p) 0 0 l refl) ∙ sym (getD-past (rows-in bytes m) p 0 (omega arith)))
+    ]
 
 -- the row of a place is its eight bytes
 pub row-eight : (bytes : List ℕ) (p : ℕ) → row-at bytes p ≡ little (take 8 (drop (8 * p) bytes))

@@ -1,10 +1,14 @@
 -- Tables of readings. Assumes nothing: these are definitions.
+use denote.Ref.{now}
 use mathlib.Core.Path.{_≡_, refl}
 use mathlib.Core.Bool.{Bool, true, false, not}
 use mathlib.Core.List.{List}
 use Prim.Native.Nat.{ℕ}
 use lib.ListN.{length, getD}
 use Rattle.readings.specs.Bits.{bit}
+use Rattle.readings.specs.Files.{rows-in}
+use Rattle.readings.specs.declared.file.Sizes.{Sizes}
+use Rattle.readings.specs.declared.view.Rows.{Rows}
 
 -- so many books (witnesses) and places (characters of two states); at a place a book reads as book 0 does, false, or the other way, true
 pub record Table : Type 0 where
@@ -31,3 +35,10 @@ table-of n rows =
       other = λ p i. differ (bit (getD rows p 0) 0) (bit (getD rows p 0) i);
       like-first = λ p. differ-self (bit (getD rows p 0) 0);
     }
+
+-- the table that the bytes of rows stand for, and that of a view of them
+unfoldable pub table-at : Sizes → List ℕ → Table
+table-at s bytes = table-of (s .books) (rows-in bytes (s .places))
+
+abbrev pub table-in : Rows → Table
+table-in rows = table-at (rows .sizes) (now (rows .bytes))

@@ -12,6 +12,7 @@ use Rattle.std.proofs.shelf.Tests.{cases-lt, lt-ltb, le-ltb}
 use Rattle.std.proofs.shelf.Ways.{tells}
 use Rattle.readings.specs.Bits.{bit}
 use Rattle.readings.proofs.Bits.{bit-none, bit-suc, bit-zero, bits-above}
+use Rattle.sets.specs.Cited.{complement}
 use Rattle.sets.specs.Sets.{either, only, shared}
 
 -- ---- `a & b`, `a | b`
@@ -57,8 +58,8 @@ bit-not (suc w) b (suc i) h l =
     ∙ bit-not w (b / 2) i (omega arith) (omega arith)
     ∙ ap not (sym (bit-suc b i))
 
-pub bit-only : (a b i : ℕ) → b < 2 ^ 64 → i < 64 → bit (bitAnd a (18446744073709551615 - b)) i ≡ only a b i
-bit-only a b i h l = bit-and a (18446744073709551615 - b) i ∙ ap (λ x. bit a i && x) (bit-not 64 b i h l)
+pub bit-only : (a b i : ℕ) → b < 2 ^ 64 → i < 64 → bit (bitAnd a (complement b)) i ≡ only a b i
+bit-only a b i h l = bit-and a (complement b) i ∙ ap (λ x. bit a i && x) (bit-not 64 b i h l)
 
 -- ---- one bit, and the first n
 

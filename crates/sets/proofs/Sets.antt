@@ -2,7 +2,7 @@
 use mathlib.Core.Path.{_≡_, refl, sym, ap, _∙_}
 use mathlib.Core.Logic.{inl, inr}
 use mathlib.Core.Bool.{Bool, true, false, not, _&&_}
-use Prim.Native.Nat.{ℕ, _-_, _^_, _<_, _≤_}
+use Prim.Native.Nat.{ℕ, _^_, _<_, _≤_}
 use native.Mathlib.Omega.{arith}
 use lib.Bits.{bitAnd, and-le-l}
 use lib.Dec.{eqb, ltb}
@@ -10,6 +10,7 @@ use Rattle.std.specs.Orderings.{Decides}
 use Rattle.std.proofs.shelf.Tests.{both-ways, cases-eq, cases-lt, eq-eqb, eqb-true, false≢true, le-ltb, lt-ltb}
 use Rattle.readings.specs.Bits.{bit}
 use Rattle.readings.proofs.Bits.{bit-none, bits-above, bits-equal}
+use Rattle.sets.specs.Cited.{complement}
 use Rattle.sets.specs.Sets.{Among, Apart, Members, Same-books, size-of}
 use Rattle.sets.specs.Statements.{As-large, Determined, Empty, Smaller}
 use Rattle.sets.proofs.Counts.{count-le, count-none, count-same}
@@ -56,14 +57,14 @@ pub among-trans : (a b c : ℕ) → Among a b → Among b c → Among a c
 unfolding Among
 among-trans a b c f g i x = g i (f i x)
 
-pub among-none-only : (a b : ℕ) → a < 2 ^ 64 → b < 2 ^ 64 → Decides (eqb (bitAnd a (18446744073709551615 - b)) 0) (Among a b)
+pub among-none-only : (a b : ℕ) → a < 2 ^ 64 → b < 2 ^ 64 → Decides (eqb (bitAnd a (complement b)) 0) (Among a b)
 unfolding Among
 among-none-only a b ha hb = (
   λ e i x.
       let l = member-below 64 a i ha x in
       let none = sym (bit-only a b i hb l) ∙ ap (λ (m : ℕ). bit m i) (eqb-true _ _ e) ∙ bit-none i in
       holds (bit a i) (bit b i) none x,
-  λ f. eq-eqb _ _ (no-members _ (omega (arith, and-le-l a (18446744073709551615 - b))) (λ i l. bit-only a b i hb l ∙ lacks (bit a i) (bit b i) (f i))),
+  λ f. eq-eqb _ _ (no-members _ (omega (arith, and-le-l a (complement b))) (λ i l. bit-only a b i hb l ∙ lacks (bit a i) (bit b i) (f i))),
 )
   where
     holds : (x y : Bool) → (x && not y) ≡ false → x ≡ true → y ≡ true

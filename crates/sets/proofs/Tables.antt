@@ -7,16 +7,16 @@ use Prim.Native.Nat.{ℕ, _+_, _^_, _<_, _≤_}
 use native.Mathlib.Omega.{arith}
 use lib.Dec.{ltb}
 use lib.ListN.{length, getD, set, take, drop}
-use Rattle.std.proofs.shelf.Lists.{drop-drop, drop-set-lt, ext-getD, getD-append-left, getD-past, getD-push, getD-take, length-push, take-append-drop, take-more-set}
-use Rattle.std.proofs.shelf.Tests.{and-right, cases-lt, cond-above, cond-below, le-ltb}
+use Rattle.std.proofs.shelf.Lists.{drop-drop, drop-set-lt, ext-getD, getD-append-left, getD-push, getD-take, length-push, take-append-drop, take-more-set}
+use Rattle.std.proofs.shelf.Tests.{and-right, cases-lt, le-ltb}
 use Rattle.readings.specs.Bits.{bit}
-use Rattle.readings.specs.Files.{row-at, rows-in}
-use Rattle.readings.specs.Tables.{Table, differ, differ-self, table-of}
+use Rattle.readings.specs.Files.{row-at}
+use Rattle.readings.specs.Tables.{Table, differ, differ-self, table-at, table-of}
 use Rattle.readings.specs.declared.file.Sizes.{Sizes}
-use Rattle.readings.proofs.Files.{getD-rows, length-rows}
+use Rattle.readings.proofs.Files.{row-or-none}
 use Rattle.sets.specs.Sets.{Members}
 use Rattle.sets.specs.Statements.{One-filling, Row-set, Turned-round}
-use Rattle.sets.specs.Tables.{In-front, Sets-of, Words, other-at, otherwise, table-at}
+use Rattle.sets.specs.Tables.{In-front, Sets-of, Words, other-at, otherwise}
 use Rattle.sets.proofs.Masks.{bit-not}
 use Rattle.sets.proofs.Sets.{below-reads, determined, members-like, none-past}
 
@@ -46,18 +46,10 @@ turned-round n w i some h =
 
 -- ---- the set of a place
 
-row-is : (bytes : List ℕ) (m p : ℕ) → cond (ltb p m) (row-at bytes p) 0 ≡ getD (rows-in bytes m) p 0
-row-is bytes m p =
-    let many = length-rows bytes m in
-    elim (cases-lt p m) [
-      | inl l ↦ (sym (cond-below p m (row-at bytes p) 0 l) ∙ sym (getD-rows bytes m p l))
-      | inr l ↦ (sym (cond-above p m (row-at bytes p) 0 0 l refl) ∙ sym (getD-past (rows-in bytes m) p 0 (omega arith)))
-    ]
-
 pub place-set : (s : Sizes) (bytes : List ℕ) (p v : ℕ) → Members v (otherwise (s .books) (cond (ltb p (s .places)) (row-at bytes p) 0)) → Members v (other-at (table-at s bytes) p)
 unfolding table-at table-of
 place-set s bytes p v =
-    members-like v _ _ (λ i l. ap (λ (w : ℕ). otherwise (s .books) w i) (row-is bytes (s .places) p))
+    members-like v _ _ (λ i l. ap (λ (w : ℕ). otherwise (s .books) w i) (row-or-none bytes (s .places) p))
 
 -- ---- the sets of a table
 

@@ -12,12 +12,16 @@ use Rattle.std.specs.declared.option.Option.{Option}
 use Rattle.std.specs.declared.option.Option.the-variants.{Some, None}
 use Rattle.readings.specs.Bits.{bit}
 use Rattle.readings.specs.Files.{row-at}
-use Rattle.readings.specs.Tables.{Table}
+use Rattle.readings.specs.Tables.{Table, table-at}
 use Rattle.readings.specs.declared.file.Sizes.{Sizes}
 use Rattle.sets.specs.Sets.{Among, Apart, Members, Same-books, Smallest, either, only, shared, size-of}
-use Rattle.sets.specs.Tables.{In-front, Sets-of, other-at, otherwise, table-at}
+use Rattle.sets.specs.Tables.{In-front, Sets-of, other-at, otherwise}
 
--- what masks of 64 bits do to the books; `!b` is all ones less b
+-- `!b`: all ones less b
+abbrev pub complement : ℕ → ℕ
+complement b = 2 ^ 64 - 1 - b
+
+-- what masks of 64 bits do to the books
 pub record Masks : Type 0 where
   -- `s >> i & 1` says whether book i is in s, and no book from 64 on is
   pub shifted : (s i : ℕ) → eqb (bitAnd (s / 2 ^ i) 1) 1 ≡ bit s i
@@ -30,7 +34,7 @@ pub record Masks : Type 0 where
   -- `a | b`
   pub or : (a b : ℕ) → Members (bitOr a b) (either a b)
   -- `a & !b == 0`, `a & b == 0`, `a == b`
-  pub none-only : (a b : ℕ) → a < 2 ^ 64 → b < 2 ^ 64 → Decides (eqb (bitAnd a (18446744073709551615 - b)) 0) (Among a b)
+  pub none-only : (a b : ℕ) → a < 2 ^ 64 → b < 2 ^ 64 → Decides (eqb (bitAnd a (complement b)) 0) (Among a b)
   pub none-shared : (a b : ℕ) → a < 2 ^ 64 → Decides (eqb (bitAnd a b) 0) (Apart a b)
   pub equal : (a b : ℕ) → a < 2 ^ 64 → b < 2 ^ 64 → Decides (eqb a b) (Same-books a b)
   -- how many zeros are below the first one, of s, of `a & b`, of `a & !b`
@@ -38,14 +42,14 @@ pub record Masks : Type 0 where
   pub lowest-below : (s : ℕ) → s < 2 ^ 64 → (s ≡ 0 → ⊥) → trailingZeros 64 s < 64
   pub lowest-none : (s : ℕ) → s ≡ 0 → Smallest (bit s) None
   pub lowest-shared : (a b : ℕ) (r : Option ℕ) → Smallest (bit (bitAnd a b)) r → Smallest (shared a b) r
-  pub lowest-only : (a b : ℕ) (r : Option ℕ) → b < 2 ^ 64 → Smallest (bit (bitAnd a (18446744073709551615 - b))) r → Smallest (only a b) r
+  pub lowest-only : (a b : ℕ) (r : Option ℕ) → b < 2 ^ 64 → Smallest (bit (bitAnd a (complement b))) r → Smallest (only a b) r
   -- `(1 << n) - 1`, and all ones from 64 on
   pub first : (n : ℕ) → n < 64 → Members (1 * 2 ^ n % 2 ^ 64 - 1) (λ i. ltb i n)
   pub first-some : (n : ℕ) → n < 64 → 1 ≤ 1 * 2 ^ n % 2 ^ 64
-  pub first-all : (n : ℕ) → 64 ≤ n → Members 18446744073709551615 (λ i. ltb i n)
+  pub first-all : (n : ℕ) → 64 ≤ n → Members (2 ^ 64 - 1) (λ i. ltb i n)
   -- a row, and its complement, among the first n books
   pub kept : (n w m : ℕ) → bit w 0 ≡ false → Members m (λ i. ltb i n) → Members (bitAnd w m) (otherwise n w)
-  pub turned : (n w m : ℕ) → w < 2 ^ 64 → bit w 0 ≡ true → Members m (λ i. ltb i n) → Members (bitAnd (18446744073709551615 - w) m) (otherwise n w)
+  pub turned : (n w m : ℕ) → w < 2 ^ 64 → bit w 0 ≡ true → Members m (λ i. ltb i n) → Members (bitAnd (complement w) m) (otherwise n w)
 
 -- how the sets of a table come into lent memory
 pub record Filling : Type 0 where

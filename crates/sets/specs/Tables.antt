@@ -1,12 +1,9 @@
 -- The sets of the places of a table: of each, the books that read otherwise there than book 0 (a side of the split that the place makes). Assumes nothing: these are definitions.
 --   otherwise     whether a book is in the set of a row
 --   other-at      whether it is in the set of a place of a table
---   table-at      the table that the bytes of rows stand for
---   table-in      the table of a view of rows
 --   Sets-of       the sets of a table's first places
 --   In-front      those sets, written over what lent memory held in front
 --   Words         numbers of 64 bits
-use denote.Ref.{now}
 use mathlib.Core.Path.{_≡_}
 use mathlib.Core.Bool.{Bool, _&&_}
 use mathlib.Core.List.{List}
@@ -14,10 +11,7 @@ use Prim.Native.Nat.{ℕ, _^_, _<_}
 use lib.Dec.{ltb}
 use lib.ListN.{length, getD, take, drop}
 use Rattle.readings.specs.Bits.{bit}
-use Rattle.readings.specs.Files.{rows-in}
-use Rattle.readings.specs.Tables.{Table, differ, table-of}
-use Rattle.readings.specs.declared.file.Sizes.{Sizes}
-use Rattle.readings.specs.declared.view.Rows.{Rows}
+use Rattle.readings.specs.Tables.{Table, differ}
 use Rattle.sets.specs.Sets.{Members}
 
 -- book i is one of n, and in the row w reads otherwise than book 0
@@ -27,12 +21,6 @@ otherwise n w i = ltb i n && differ (bit w 0) (bit w i)
 -- book i is one of the table's, and reads otherwise at the place p
 abbrev pub other-at : Table → ℕ → ℕ → Bool
 other-at t p i = ltb i (t .books) && t .other p i
-
-unfoldable pub table-at : Sizes → List ℕ → Table
-table-at s bytes = table-of (s .books) (rows-in bytes (s .places))
-
-abbrev pub table-in : Rows → Table
-table-in rows = table-at (rows .sizes) (now (rows .bytes))
 
 unfoldable pub Sets-of : Table → ℕ → List ℕ → Type 0
 Sets-of t k sets = (length sets ≡ k) × ((p : ℕ) → p < k → Members (getD sets p 0) (other-at t p))

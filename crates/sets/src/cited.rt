@@ -1,5 +1,5 @@
-// Laws that the code cites. They do nothing when they run: a function calls the one that it rests on, so that the check finds what is
-// ensured from the code itself, and an edit of a mask is refused because the mask is wrong.
+// Laws that the code cites. They do nothing when they run: a function calls the one that it rests on, and the check finds what is
+// ensured from the code and the law, without a proof file. A mask in another shape, right or wrong, wants a law of its own.
 ghost use Rattle.sets.specs.Cited.{Filling, Masks};
 
 // What masks do to the books.

@@ -1,7 +1,8 @@
 // The sets of the places of a table: at each the books that read otherwise than book 0.
+ghost use Rattle.readings.specs.Tables.{table-in};
 ghost use Rattle.readings.specs.declared.refusals.Lent.the-variants.{Sets};
 ghost use Rattle.readings.specs.declared.refusals.Refusal.the-variants.{Room};
-ghost use Rattle.sets.specs.Tables.{In-front, Sets-of, other-at, otherwise, table-in};
+ghost use Rattle.sets.specs.Tables.{In-front, Sets-of, other-at, otherwise};
 ghost use Rattle.sets.specs.Sets.{Members};
 ghost use Rattle.std.specs.Results.{Cases};
 ghost use Rattle.std.specs.Vec.{made};

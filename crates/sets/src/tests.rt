@@ -50,8 +50,10 @@ fn takes_the_set_of_a_row() -> Result<(), Fail> {
 }
 
 // A set, a book, whether it is in it, the size of the set, and the set with the book.
-const BOOKS: [(u64, u8, bool, u8, u64); 7] = [
+const BOOKS: [(u64, u8, bool, u8, u64); 9] = [
     (0, 0, false, 0, 1),
+    (0, 63, false, 0, LAST),
+    (0, 64, false, 0, 0),
     (LAST, 63, true, 1, LAST),
     (LAST, 62, false, 1, LAST + (1 << 62)),
     (0b0110, 1, true, 2, 0b0110),
@@ -62,7 +64,7 @@ const BOOKS: [(u64, u8, bool, u8, u64); 7] = [
 
 #[test]
 fn knows_its_books() -> Result<(), Fail> {
-    for k in 0..7 {
+    for k in 0..9 {
         let (set, book, is_in, count, more) = BOOKS[k];
         check_eq(has(set, book), is_in)?;
         check_eq(size(set), count)?;
@@ -94,8 +96,9 @@ fn compares() -> Result<(), Fail> {
 }
 
 // Two sets, and the smallest book of the first, of both, of the first alone; 64 for none.
-const FIRSTS: [(u64, u64, u8, u8, u8); 6] = [
+const FIRSTS: [(u64, u64, u8, u8, u8); 7] = [
     (0, ALL, 64, 64, 64),
+    (1, 2, 0, 64, 0),
     (ALL, 0, 0, 64, 0),
     (0b0110, 0b1100, 1, 2, 1),
     (0b0110, 0b0010, 1, 1, 2),
@@ -105,7 +108,7 @@ const FIRSTS: [(u64, u64, u8, u8, u8); 6] = [
 
 #[test]
 fn finds_the_smallest() -> Result<(), Fail> {
-    for k in 0..6 {
+    for k in 0..7 {
         let (a, b, first, shared, only) = FIRSTS[k];
         check_eq(smallest(a).unwrap_or(64), first)?;
         check_eq(smallest_shared(a, b).unwrap_or(64), shared)?;
@@ -114,8 +117,11 @@ fn finds_the_smallest() -> Result<(), Fail> {
     Ok(())
 }
 
-// Four books and two places, at which books 1 and 2, and books 0 and 3, read 1.
-const FILE: &[u8; 19] = b"\x04\x02\0\x06\0\0\0\0\0\0\0\x09\0\0\0\0\0\0\0";
+// Four books and two places, at which books 1 and 2, and books 0 and 2, read 1.
+const FILE: &[u8; 19] = b"\x04\x02\0\x06\0\0\0\0\0\0\0\x05\0\0\0\0\0\0\0";
+
+// Four books and no place.
+const NO_PLACES: &[u8; 3] = b"\x04\0\0";
 
 // The set of a place of the file.
 fn set_in_file(p: u16) -> Result<u64, Refusal> {
@@ -124,30 +130,40 @@ fn set_in_file(p: u16) -> Result<u64, Refusal> {
     Ok(set_at(Rows { sizes, bytes }, p))
 }
 
-// Writes the sets of the file into memory.
-fn filled(memory: &mut [u64]) -> Result<u8, Refusal> {
-    let sizes = read_sizes(FILE)?;
-    let bytes = read_rows(FILE, sizes)?;
+// Writes the sets of a file into memory.
+fn filled(file: &[u8], memory: &mut [u64]) -> Result<(), Refusal> {
+    let sizes = read_sizes(file)?;
+    let bytes = read_rows(file, sizes)?;
     fill(Rows { sizes, bytes }, memory)?;
-    Ok(0)
+    Ok(())
 }
 
-// What is given, or the number of the refusal.
-fn said(given: Result<u8, Refusal>) -> u8 {
-    match given {
-        Ok(given) => given,
-        Err(refusal) => refusal.number(),
+// The number and the place of the refusal, or zeros.
+fn said(done: Result<(), Refusal>) -> (u8, usize) {
+    match done {
+        Ok(()) => (0, 0),
+        Err(refusal) => (refusal.number(), refusal.place()),
     }
 }
 
 #[test]
-fn fills_lent_memory() -> Result<(), Fail> {
-    let mut memory = [7; 3];
-    check_eq(said(filled(&mut memory)), 0)?;
-    check_eq(memory, [6, 6, 7])?;
-    let mut short = [7; 1];
-    check_eq(said(filled(&mut short)), 10)?;
-    check_eq(short, [7])?;
-    check_eq(set_in_file(1).unwrap_or(1), 6)?;
+fn takes_the_set_of_a_place() -> Result<(), Fail> {
+    check_eq(set_in_file(0).unwrap_or(1), 0b0110)?;
+    check_eq(set_in_file(1).unwrap_or(1), 0b1010)?;
     check_eq(set_in_file(2).unwrap_or(1), 0)
+}
+
+#[test]
+fn fills_lent_memory() -> Result<(), Fail> {
+    let mut longer = [7; 3];
+    check_eq(said(filled(FILE, &mut longer)), (0, 0))?;
+    check_eq(longer, [0b0110, 0b1010, 7])?;
+    let mut just = [7; 2];
+    check_eq(said(filled(FILE, &mut just)), (0, 0))?;
+    check_eq(just, [0b0110, 0b1010])?;
+    let mut short = [7; 1];
+    check_eq(said(filled(FILE, &mut short)), (10, 0))?;
+    check_eq(short, [7])?;
+    check_eq(said(filled(NO_PLACES, &mut short)), (0, 0))?;
+    check_eq(short, [7])
 }

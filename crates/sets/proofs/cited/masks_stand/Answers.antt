@@ -10,6 +10,7 @@ use Rattle.std.proofs.shelf.Tests.{lt-ltb, ne-eqb}
 use Rattle.readings.specs.Bits.{bit}
 use Rattle.readings.specs.Tables.{differ}
 use Rattle.readings.proofs.Bits.{bit-none, bits-above}
+use Rattle.sets.specs.Cited.{complement}
 use Rattle.sets.specs.Sets.{Members, either}
 use Rattle.sets.specs.Tables.{otherwise}
 use Rattle.sets.proofs.Counts.{ones-count}
@@ -38,7 +39,7 @@ first : (n : ℕ) → n < 64 → Members (1 * 2 ^ n % 2 ^ 64 - 1) (λ i. ltb i n
 unfolding Members
 first n h i l = ap (λ (s : ℕ). bit (s - 1) i) (one-shl n 64 h) ∙ bit-first n i
 
-first-all : (n : ℕ) → 64 ≤ n → Members 18446744073709551615 (λ i. ltb i n)
+first-all : (n : ℕ) → 64 ≤ n → Members (2 ^ 64 - 1) (λ i. ltb i n)
 unfolding Members
 first-all n h i l = bit-first 64 i ∙ lt-ltb i 64 l ∙ sym (lt-ltb i n (omega arith))
 
@@ -53,9 +54,9 @@ kept : (n w m : ℕ) → bit w 0 ≡ false → Members m (λ i. ltb i n) → Mem
 unfolding Members
 kept n w m e known i l = within n w m false e w i refl (known i l)
 
-turned : (n w m : ℕ) → w < 2 ^ 64 → bit w 0 ≡ true → Members m (λ i. ltb i n) → Members (bitAnd (18446744073709551615 - w) m) (otherwise n w)
+turned : (n w m : ℕ) → w < 2 ^ 64 → bit w 0 ≡ true → Members m (λ i. ltb i n) → Members (bitAnd (complement w) m) (otherwise n w)
 unfolding Members
-turned n w m h e known i l = within n w m true e (18446744073709551615 - w) i (bit-not 64 w i h l) (known i l)
+turned n w m h e known i l = within n w m true e (complement w) i (bit-not 64 w i h l) (known i l)
 
 pub returns : need.returns
 returns c =

@@ -1,5 +1,6 @@
 -- What is written so far.
-use Rattle.sets.specs.Tables.{In-front, table-at}
+use Rattle.readings.specs.Tables.{table-at}
+use Rattle.sets.specs.Tables.{In-front}
 use Rattle.sets.proofs.places.fill.Given as given
 
 abbrev pub Inv-loop-p : given.InvT-loop-p
