@@ -1,4 +1,6 @@
 // The readings of a table: its file, or why that is turned away.
+#![tactic(auto)]
+
 mod file;
 mod laws;
 mod refusals;

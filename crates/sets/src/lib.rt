@@ -1,4 +1,6 @@
 // Sets of books: bits of a number, compared by masks. Whoever stands above speaks of membership, and needs no mask or shift.
+#![tactic(auto)]
+
 mod books;
 mod cited;
 mod compare;

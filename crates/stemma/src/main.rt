@@ -1,6 +1,9 @@
 // The program `stemma`: says of a table's file what it holds, or why it is turned away.
+#![tactic(auto)]
+
 use readings::{Refusal, Sizes};
 use std::fmt::Display;
+use std::process::ExitCode;
 use std::{env, fs, io};
 
 const HELP: &str = "usage: stemma TABLE
@@ -114,12 +117,16 @@ fn answer(rt: &HostRuntime, request: Request) -> Result<(), Failed> {
     }
 }
 
-fn main(rt: HostRuntime) -> Result<(), Failed> {
-    match requested(&rt) {
+fn main(rt: HostRuntime) -> ExitCode {
+    let done = match requested(&rt) {
         Ok(request) => answer(&rt, request),
         Err(error) => complain(
             &rt,
             format_args!("cannot read the arguments, which have to be UTF-8: {error}"),
         ),
+    };
+    match done {
+        Ok(()) => ExitCode::SUCCESS,
+        Err(Failed) => ExitCode::FAILURE,
     }
 }

@@ -4,4 +4,4 @@ use Rattle.readings.proofs.Bits.{little_eight}
 use Rattle.readings.proofs.file.row.Goals as goal
 
 pub returns : goal.returns
-returns c = c.from-le-bytes.ensures ∙ little_eight c.args.part.now c.requires
+returns c = c.from_le_bytes.ensures ∙ little_eight c.args.part.now c.requires
