@@ -1,5 +1,5 @@
 -- Conflicts read off the rows of a table: in all four ways, and none of a row turned round.
-use Rattle.std.proofs.Common.{◌≡◌, ℕ, ◌-◌, ◌<◌, Bool, true, false, not, ◌⊎◌, List, length, get_or, sym, refl, ap, ◌∙◌, subst, inl, inr}
+use Rattle.std.proofs.Common.{◌≡◌, ℕ, ◌<◌, Bool, true, false, not, ◌⊎◌, List, length, get_or, sym, refl, ap, ◌∙◌, subst, inl, inr}
 use Rattle.std.proofs.lemmas.Bool.{lt-ltb}
 use Rattle.readings.specs.Bits.{bit}
 use Rattle.readings.specs.Tables.{differ, differ_self, table_of}

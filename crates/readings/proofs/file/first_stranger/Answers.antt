@@ -2,7 +2,7 @@
 use Rattle.std.proofs.Common.{sym, ◌∙◌, arith}
 use Rattle.std.proofs.lemmas.List.{at_drop_all}
 use Rattle.std.proofs.lemmas.Bool.{not-true, not-false}
-use Rattle.readings.specs.Files.{known, rows_in, stranger}
+use Rattle.readings.specs.Files.{rows_in, stranger}
 use Rattle.readings.proofs.Files.{all_known, length-rows_in, stranger_here, stranger_more}
 use Rattle.readings.proofs.file.first_stranger.Goals as goal
 
