@@ -4,6 +4,7 @@
 //! ```text
 //! outside test BIN DEMO     test the programs in BIN, and the files in DEMO
 //! outside write-demo DEMO   write the files in DEMO anew
+//! outside write-bench DIR   write the tables that are measured into DIR
 //! ```
 
 mod cases;
@@ -16,6 +17,7 @@ mod report;
 mod rules;
 mod tables;
 
+use std::io;
 use std::path::Path;
 use std::process::ExitCode;
 
@@ -24,9 +26,10 @@ fn main() -> ExitCode {
     let words: Vec<&str> = words.iter().map(String::as_str).collect();
     match words[..] {
         ["test", bin, demo] => test(Path::new(bin), Path::new(demo)),
-        ["write-demo", demo] => write_demo(Path::new(demo)),
+        ["write-demo", demo] => written(demo, demo::write(Path::new(demo))),
+        ["write-bench", dir] => written(dir, tables::write_measured(Path::new(dir))),
         _ => {
-            eprintln!("usage: outside test BIN DEMO, or outside write-demo DEMO");
+            eprintln!("usage: outside test BIN DEMO, outside write-demo DEMO, or outside write-bench DIR");
             ExitCode::FAILURE
         }
     }
@@ -36,20 +39,22 @@ fn test(bin: &Path, demo: &Path) -> ExitCode {
     let mut report = report::Report::new();
     let stemma = program::Program::new(&bin.join("stemma"));
     tables::named(&mut report, &stemma);
+    tables::small(&mut report, &stemma);
     tables::lengths(&mut report, &stemma);
     tables::strangers(&mut report, &stemma);
     tables::largest(&mut report, &stemma);
+    tables::noisy(&mut report, &stemma);
     tables::damaged(&mut report, &stemma);
     demo::as_made(&mut report, &stemma, demo);
     commands::all(&mut report, &stemma);
     report.end()
 }
 
-fn write_demo(dir: &Path) -> ExitCode {
-    match demo::write(dir) {
+fn written(dir: &str, result: io::Result<()>) -> ExitCode {
+    match result {
         Ok(()) => ExitCode::SUCCESS,
         Err(error) => {
-            eprintln!("outside: cannot write the files in {}: {error}", dir.display());
+            eprintln!("outside: cannot write the files in {dir}: {error}");
             ExitCode::FAILURE
         }
     }
