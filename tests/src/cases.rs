@@ -1,12 +1,12 @@
-//! Files by name, each with its answer: tables without a conflict and with one, and each refusal beside those around it.
+//! Files by name, each with its answer: tables that are read, and each refusal beside those before and after it.
 
 use crate::files::{head, Table};
-use crate::rules::{conflict, refused, Said};
+use crate::rules::{refused, sizes, Said};
 
 pub type Case = (&'static str, Vec<u8>, Said);
 
 pub fn all() -> Vec<Case> {
-    let parts = [clean(), conflicting(), wrong_books(), wrong_places(), wrong_length(), unknown_book()];
+    let parts = [taken(), wrong_books(), wrong_places(), wrong_length(), unknown_book()];
     parts.into_iter().flatten().collect()
 }
 
@@ -27,56 +27,12 @@ fn file(books: usize, places: usize, rows: &[u8]) -> Vec<u8> {
     [&head(books, places), rows].concat()
 }
 
-/// The file of the table in which the books of each set read 1.
-fn table(books: usize, ones: &[&[usize]]) -> Vec<u8> {
-    Table::of_sets(books, ones).file()
-}
-
-fn clean() -> Vec<Case> {
-    let all: Vec<usize> = (0..64).collect();
+fn taken() -> Vec<Case> {
     vec![
-        ("the first table", first(), Said::NoConflict),
-        ("no place", table(3, &[]), Said::NoConflict),
-        ("an empty place", table(3, &[&[]]), Said::NoConflict),
-        (
-            "a place twice, and two that lie in one",
-            table(5, &[&[1, 2, 3, 4], &[1, 2], &[3, 4], &[1, 2]]),
-            Said::NoConflict,
-        ),
-        ("places apart, and one in another", table(6, &[&[1], &[2], &[3], &[4, 5], &[5]]), Said::NoConflict),
-        ("one book and no place", head(1, 0), Said::NoConflict),
-        ("one book, which reads 1", table(1, &[&[0]]), Said::NoConflict),
-        ("64 books, which all read 1", table(64, &[&all, &all]), Said::NoConflict),
-        ("a place and itself turned round", table(4, &[&[1, 2], &[0, 3]]), Said::NoConflict),
-        ("three places apart", table(4, &[&[1], &[2], &[3]]), Said::NoConflict),
-        ("the larger place after the smaller", table(5, &[&[2], &[2, 3], &[1, 2, 3]]), Said::NoConflict),
-    ]
-}
-
-fn conflicting() -> Vec<Case> {
-    vec![
-        ("a conflict", table(4, &[&[1, 2], &[2, 3]]), conflict([0, 1], [2, 1, 3])),
-        ("a conflict, and a place after it", table(5, &[&[1, 2, 3], &[2, 3, 4], &[2]]), conflict([0, 1], [2, 1, 4])),
-        ("a conflict the other way round", table(4, &[&[2, 3], &[1, 2]]), conflict([0, 1], [2, 3, 1])),
-        ("a conflict where book 0 reads 1 at one place", table(4, &[&[1, 2], &[0, 1]]), conflict([0, 1], [2, 1, 3])),
-        ("a conflict where book 0 reads 1 at both", table(4, &[&[0, 3], &[0, 1]]), conflict([0, 1], [2, 1, 3])),
-        ("a conflict of the second place", table(4, &[&[1, 2, 3], &[1, 2], &[2, 3]]), conflict([1, 2], [2, 1, 3])),
-        ("a place that conflicts with two", table(5, &[&[1, 2], &[3], &[2, 4], &[2, 3]]), conflict([0, 2], [2, 1, 4])),
-        (
-            "a later place with a smaller second",
-            table(6, &[&[5], &[1, 2], &[3, 4], &[2, 3]]),
-            conflict([1, 3], [2, 1, 3]),
-        ),
-        (
-            "a conflict that only the last book shows",
-            table(64, &[&[62, 63], &[61, 63]]),
-            conflict([0, 1], [63, 62, 61]),
-        ),
-        (
-            "a conflict with several books of each kind",
-            table(9, &[&[1, 2, 5, 6], &[3, 4, 5, 6]]),
-            conflict([0, 1], [5, 1, 3]),
-        ),
+        ("the first table", first(), sizes(4, 3)),
+        ("one book and no place", head(1, 0), sizes(1, 0)),
+        ("64 books, which all read 1", file(64, 1, &[255; 8]), sizes(64, 1)),
+        ("one book, which reads 1", file(1, 1, &[1, 0, 0, 0, 0, 0, 0, 0]), sizes(1, 1)),
     ]
 }
 

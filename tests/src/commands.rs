@@ -19,7 +19,7 @@ pub fn all(report: &mut Report, stemma: &Program) {
     let run = |words: &[&OsStr]| stemma.command().args(words).output().expect("the program runs");
     let word = OsStr::new;
     one("--help", differs(&run(&[word("--help")]), HELP, 0));
-    one("--version", differs(&run(&[word("--version")]), b"stemma 0.2.0\n", 0));
+    one("--version", differs(&run(&[word("--version")]), b"stemma 0.1.0\n", 0));
     one("no argument", fails_otherwise(&run(&[]), &["stemma:", "no file", "--help"]));
     one("an unknown option", fails_otherwise(&run(&[word("-x")]), &["stemma:", "\"-x\"", "--help"]));
     one("two files", fails_otherwise(&run(&[word("a"), word("b")]), &["stemma:", "\"b\"", "--help"]));

@@ -4,23 +4,21 @@ use crate::files::Table;
 use crate::program::Program;
 use crate::random::Random;
 use crate::report::Report;
-use crate::rules::{conflict, said_of, Said};
+use crate::rules::said_of;
 use std::fs;
 use std::io;
 use std::path::Path;
 
-/// Each file with its table and what is said of it.
-fn all() -> Vec<(&'static str, Table, Said)> {
-    let clean = Said::NoConflict;
+fn all() -> Vec<(&'static str, Table)> {
     vec![
-        ("first.tbl", Table::of_sets(4, &[&[1, 2], &[2], &[3]]), clean),
-        ("second.tbl", Table::of_sets(3, &[]), clean),
-        ("second_empty.tbl", Table::of_sets(3, &[&[]]), clean),
-        ("third.tbl", Table::of_sets(4, &[&[1, 2], &[2, 3]]), conflict([0, 1], [2, 1, 3])),
-        ("fourth.tbl", Table::of_sets(5, &[&[1, 2, 3, 4], &[1, 2], &[3, 4], &[1, 2]]), clean),
-        ("fifth.tbl", Table::of_sets(6, &[&[1], &[2], &[3], &[4, 5], &[5]]), clean),
-        ("sixth.tbl", Table::of_sets(5, &[&[1, 2, 3], &[2, 3, 4], &[2]]), conflict([0, 1], [2, 1, 4])),
-        ("large.tbl", copied(&mut Random::new(1900), 41, 1900), clean),
+        ("first.tbl", Table::of_sets(4, &[&[1, 2], &[2], &[3]])),
+        ("second.tbl", Table::of_sets(3, &[])),
+        ("second_empty.tbl", Table::of_sets(3, &[&[]])),
+        ("third.tbl", Table::of_sets(4, &[&[1, 2], &[2, 3]])),
+        ("fourth.tbl", Table::of_sets(5, &[&[1, 2, 3, 4], &[1, 2], &[3, 4], &[1, 2]])),
+        ("fifth.tbl", Table::of_sets(6, &[&[1], &[2], &[3], &[4, 5], &[5]])),
+        ("sixth.tbl", Table::of_sets(5, &[&[1, 2, 3], &[2, 3, 4], &[2]])),
+        ("large.tbl", copied(&mut Random::new(1900), 41, 1900)),
     ]
 }
 
@@ -48,26 +46,46 @@ fn readers(random: &mut Random, source: &[usize], homes: &[usize]) -> Vec<usize>
 }
 
 pub fn write(dir: &Path) -> io::Result<()> {
-    for (name, table, _) in all() {
+    for (name, table) in all() {
         fs::write(dir.join(name), table.file())?;
     }
     Ok(())
 }
 
-/// The files are there as they are made here, and are answered as they are to be.
+/// The files are there as they are made here, and are answered as the rules say.
 pub fn as_made(report: &mut Report, stemma: &Program, dir: &Path) {
     let files = all();
     let mut differences = Vec::new();
-    for (name, table, expected) in &files {
+    for (name, table) in &files {
         let made = table.file();
         match fs::read(dir.join(name)) {
-            Ok(file) if file == made => differences.extend(stemma.table(&file, *expected)),
+            Ok(file) if file == made => differences.extend(stemma.table(&file, said_of(&file))),
             Ok(_) => differences.push(format!("{name} is not as it is made")),
             Err(error) => differences.push(format!("{name}: {error}")),
         }
-        if said_of(&made) != *expected {
-            differences.push(format!("the rules read once more say {:?} of {name}", said_of(&made)));
-        }
     }
     report.test("the files in demo/", files.len(), &differences);
+    let (name, large) = files.last().expect("a table of a real edition's size");
+    let crossing: Vec<String> = crossings(large).map(|(p, q)| format!("places {p} and {q} of {name}")).collect();
+    report.test("no two places of the large table contradict each other", large.ones.len(), &crossing);
+}
+
+/// The pairs of places at which books read in all four ways: otherwise than book 0 at both, at one, at the other, at neither.
+fn crossings(table: &Table) -> impl Iterator<Item = (usize, usize)> + '_ {
+    let otherwise: Vec<Vec<bool>> = table
+        .ones
+        .iter()
+        .map(|ones| {
+            let reads_one = |book: usize| ones.contains(&book);
+            (0..table.books).map(|book| reads_one(book) != reads_one(0)).collect()
+        })
+        .collect();
+    let cross = move |p: usize, q: usize| {
+        let some = |at_p: bool, at_q: bool| {
+            (0..table.books).any(|book| (otherwise[p][book], otherwise[q][book]) == (at_p, at_q))
+        };
+        some(true, true) && some(true, false) && some(false, true)
+    };
+    let places = table.ones.len();
+    (0..places).flat_map(move |p| (p + 1..places).map(move |q| (p, q))).filter(move |&(p, q)| cross(p, q))
 }

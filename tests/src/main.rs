@@ -4,7 +4,6 @@
 //! ```text
 //! outside test BIN DEMO     test the programs in BIN, and the files in DEMO
 //! outside write-demo DEMO   write the files in DEMO anew
-//! outside write-bench DIR   write the tables that are measured into DIR
 //! ```
 
 mod cases;
@@ -17,7 +16,6 @@ mod report;
 mod rules;
 mod tables;
 
-use std::io;
 use std::path::Path;
 use std::process::ExitCode;
 
@@ -26,10 +24,9 @@ fn main() -> ExitCode {
     let words: Vec<&str> = words.iter().map(String::as_str).collect();
     match words[..] {
         ["test", bin, demo] => test(Path::new(bin), Path::new(demo)),
-        ["write-demo", demo] => written(demo, demo::write(Path::new(demo))),
-        ["write-bench", dir] => written(dir, tables::write_measured(Path::new(dir))),
+        ["write-demo", demo] => write_demo(Path::new(demo)),
         _ => {
-            eprintln!("usage: outside test BIN DEMO, outside write-demo DEMO, or outside write-bench DIR");
+            eprintln!("usage: outside test BIN DEMO, or outside write-demo DEMO");
             ExitCode::FAILURE
         }
     }
@@ -39,22 +36,20 @@ fn test(bin: &Path, demo: &Path) -> ExitCode {
     let mut report = report::Report::new();
     let stemma = program::Program::new(&bin.join("stemma"));
     tables::named(&mut report, &stemma);
-    tables::small(&mut report, &stemma);
     tables::lengths(&mut report, &stemma);
     tables::strangers(&mut report, &stemma);
     tables::largest(&mut report, &stemma);
-    tables::noisy(&mut report, &stemma);
     tables::damaged(&mut report, &stemma);
     demo::as_made(&mut report, &stemma, demo);
     commands::all(&mut report, &stemma);
     report.end()
 }
 
-fn written(dir: &str, result: io::Result<()>) -> ExitCode {
-    match result {
+fn write_demo(dir: &Path) -> ExitCode {
+    match demo::write(dir) {
         Ok(()) => ExitCode::SUCCESS,
         Err(error) => {
-            eprintln!("outside: cannot write the files in {dir}: {error}");
+            eprintln!("outside: cannot write the files in {}: {error}", dir.display());
             ExitCode::FAILURE
         }
     }

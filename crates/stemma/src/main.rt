@@ -1,8 +1,7 @@
-// The program `stemma`: prints the first conflict of a table, or that it has none, or why its file is turned away.
+// The program `stemma`: says of a table's file what it holds, or why it is turned away.
 #![tactic(auto)]
 
-use conflicts::{Conflict, first_in_file};
-use readings::{MAX_PLACES, Refusal};
+use readings::{Refusal, Sizes};
 use std::fmt::Display;
 use std::process::ExitCode;
 use std::{env, fs, io};
@@ -10,29 +9,22 @@ use std::{env, fs, io};
 const HELP: &str = "usage: stemma TABLE
 
 Reads the table of readings in the file TABLE and prints one line:
-  conflict P Q by I J K   the places P and Q, which no family tree of the books
-                          explains together: otherwise than book 0 reads book I
-                          at both, J at P only, K at Q only. It is the one with
-                          the smallest P, then Q, then I, J and K
-  no conflict             no two places conflict
-  refused N at P          why the file is turned away, and where:
+  books N, places M    the table's sizes
+  refused N at P       why the file is turned away, and where:
     1 at 0   the number of books is missing, 0 or above 64
     2 at 1   the number of places is missing or above 2,048
     3 at L   the file, of L bytes, has not eight bytes for each place
     4 at P   at the place P a book reads 1 that is not there
 
-The status is 1 after a refusal and 0 after another answer. It is 1 too where
-the file can't be read or the arguments are wrong: then a line on standard
-error says so, and nothing is printed.
+The status is 0 after the sizes and 1 after a refusal. It is 1 too where the
+file can't be read or the arguments are wrong: then a line on standard error
+says so, and nothing is printed.
 
   --help      print this text
   --version   print the version
 ";
 
-// Memory for the sets of the largest table.
-const ROOM: usize = MAX_PLACES as usize;
-
-const VERSION: &str = "stemma 0.2.0";
+const VERSION: &str = "stemma 0.1.0";
 
 // The program ends with status 1; what there is to say was said.
 #[derive(Drop)]
@@ -85,15 +77,9 @@ fn written(rt: &HostRuntime, res: io::Result<()>) -> Result<(), Failed> {
     }
 }
 
-fn show_conflict(rt: &HostRuntime, conflict: Conflict) -> Result<(), Failed> {
-    let Conflict {
-        p,
-        q,
-        both,
-        one,
-        two,
-    } = conflict;
-    written(rt, println!(rt; "conflict {p} {q} by {both} {one} {two}"))
+fn show_sizes(rt: &HostRuntime, sizes: Sizes) -> Result<(), Failed> {
+    let Sizes { books, places } = sizes;
+    written(rt, println!(rt; "books {books}, places {places}"))
 }
 
 fn show_refusal(rt: &HostRuntime, refusal: Refusal) -> Result<(), Failed> {
@@ -108,10 +94,8 @@ fn show_table(rt: &HostRuntime, path: &str) -> Result<(), Failed> {
         Ok(file) => file,
         Err(error) => return complain(rt, format_args!("cannot read {path:?}: {error}")),
     };
-    let mut sets = [0; ROOM];
-    match first_in_file(file.as_slice(), &mut sets) {
-        Ok(Some(conflict)) => show_conflict(rt, conflict),
-        Ok(None) => written(rt, println!(rt; "no conflict")),
+    match readings::read(file.as_slice()) {
+        Ok((sizes, _)) => show_sizes(rt, sizes),
         Err(refusal) => show_refusal(rt, refusal),
     }
 }
