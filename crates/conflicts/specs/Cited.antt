@@ -1,5 +1,5 @@
 -- What the code of this crate cites: when two sets cross, how the search goes from book to book and from pair to pair, and what that says of a file. Each law is a statement, a type whose proof is owed. Assumes nothing.
---   SoFar            of the numbers below i the smallest with a property, or that none has it
+--   SoFar             of the numbers below i the smallest with a property, or that none has it
 --   Looked            what was seen of two sets when the books below i were looked at
 --   seen_with         what was seen with one book more
 --   conflict_by       the conflict by the books that were seen, if there is one of each kind

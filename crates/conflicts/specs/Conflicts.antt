@@ -1,8 +1,8 @@
 -- Conflicts of a table: two places that no tree can explain together. Assumes nothing: these are definitions.
 --   Conflict        two places and three books that, with book 0, read in all four ways
 --   Named           what the program names of a conflict: the numbers of the two places and the three books
---   NoLater        of two lists of as many numbers, the first comes before the second or is the same
---   FirstConflict  what is named is a conflict of the table, and none comes before it
+--   NoLater         of two lists of as many numbers, the first comes before the second or is the same
+--   FirstConflict   what is named is a conflict of the table, and none comes before it
 --   Answers         what is said of a table: its first conflict, or that there is none
 use Rattle.std.specs.Prelude.{◌≡◌, ℕ, ◌<◌, true, false, ◌⊎◌, List, [], ◌∷◌, Some, None, Option}
 use Rattle.readings.specs.Tables.{Table}

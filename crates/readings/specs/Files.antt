@@ -3,7 +3,7 @@
 --   no_books, no_places    whether they are missing or outside their limits
 --   sizes_of               the sizes, or the refusal on their account
 --   row_at, rows_in        the row of one place, and of each
---   known, AllKnown       whether each book that reads 1 is there, in a row and at all places
+--   known, AllKnown        whether each book that reads 1 is there, in a row and at all places
 --   stranger               the first place with a book that is not there
 --   bytes_of               the bytes of the rows, or the refusal on their account
 --   Contents, reading      what a whole file holds, or the first refusal of the list

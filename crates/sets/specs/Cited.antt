@@ -1,5 +1,5 @@
 -- What the code of this crate cites: the masks, and the filling of lent memory. Each is a statement, a type whose proof is owed. Assumes nothing.
-use Rattle.std.specs.Prelude.{◌≡◌, ℕ, ◌+◌, ◌-◌, ◌*◌, ◌/◌, ◌%◌, ◌^◌, ◌<◌, ◌≤◌, true, false, cond, nat_lt, List, length, take, Some, None, Decides, Option, ◌==◌, ◌≢◌, bit_and, bit_or, count_ones, nat_eq, nat_lt, slice_set}
+use Rattle.std.specs.Prelude.{◌≡◌, ℕ, ◌+◌, ◌-◌, ◌*◌, ◌/◌, ◌%◌, ◌^◌, ◌<◌, ◌≤◌, true, false, cond, nat_lt, List, length, take, Some, None, Decides, Option, ◌==◌, ◌≢◌, bit_and, bit_or, count_ones, nat_eq, slice_set}
 use Rattle.std.specs.Int.Count.{count_trailing_zeros}
 use Rattle.readings.specs.Bits.{bit}
 use Rattle.readings.specs.Files.{row_at}

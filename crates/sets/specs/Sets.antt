@@ -2,7 +2,7 @@
 --   shared, only, either   whether a book is in both sets, in the first alone, in one or the other
 --   Members                which books a set has
 --   Among, Apart           each book of one set is in the other; no book is in both
---   SameBooks             each book is in both or in none
+--   SameBooks              each book is in both or in none
 --   count, size_of         how many numbers have a property; how many books a set has
 --   Smallest               the smallest book with a property, or that there is none
 use Rattle.std.specs.Prelude.{◌≡◌, ℕ, zero, suc, ◌+◌, ◌<◌, Bool, true, false, cond, not, ◌&&◌, ◌||◌, Some, None, Option, ◌≢◌}

@@ -1,8 +1,8 @@
 -- The sets of the places of a table: of each, the books that read otherwise there than book 0 (a side of the split that the place makes). Assumes nothing: these are definitions.
 --   otherwise     whether a book is in the set of a row
 --   other_at      whether it is in the set of a place of a table
---   SetsOf       the sets of a table's first places
---   InFront      those sets, written over what lent memory held in front
+--   SetsOf        the sets of a table's first places
+--   InFront       those sets, written over what lent memory held in front
 --   Words         numbers of 64 bits
 use Rattle.std.specs.Prelude.{◌≡◌, ℕ, ◌^◌, ◌<◌, Bool, ◌&&◌, List, length, take, drop, nat_lt, slice_index}
 use Rattle.readings.specs.Bits.{bit}

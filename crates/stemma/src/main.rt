@@ -70,8 +70,8 @@ fn complain(rt: &HostRuntime, why: impl Display + Drop) -> Result<(), Failed> {
 }
 
 // What was printed is an answer only if it could be written.
-fn written(rt: &HostRuntime, res: io::Result<()>) -> Result<(), Failed> {
-    match res {
+fn written(rt: &HostRuntime, outcome: io::Result<()>) -> Result<(), Failed> {
+    match outcome {
         Ok(()) => Ok(()),
         Err(error) => complain(rt, format_args!("cannot write the answer: {error}")),
     }
