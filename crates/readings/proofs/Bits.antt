@@ -1,9 +1,10 @@
 -- Bits of numbers, and of the numbers that bytes write.
-use Rattle.std.proofs.Common.{◌≡◌, ℕ, zero, suc, ◌+◌, ◌*◌, ◌/◌, ◌%◌, ◌^◌, ◌<◌, ◌≤◌, false, eqb, ◌⊎◌, List, [], ◌∷◌, length, get_or, take, drop, sym, ap, ◌∙◌, subst, inl, inr, mod-lt, mul_assoc, div-one, arith}
-use native.Mathlib.Nat.{div-eq_of_lt, div-div-eq-div-mul, pow-le-pow_right, pow-succ', zero-div}
+use Rattle.std.proofs.Common.{◌≡◌, ℕ, zero, suc, ◌+◌, ◌*◌, ◌/◌, ◌%◌, ◌^◌, ◌<◌, ◌≤◌, false, eqb, List, [], ◌∷◌, length, get_or, take, drop, sym, ap, ◌∙◌, subst, mod-lt, arith}
+use native.Mathlib.Nat.{div-eq_of_lt, pow-le-pow_right}
+use Rattle.std.specs.Int.{bit_at}
 use Rattle.std.proofs.lemmas.Nat.{pow_pos, shr-shr, shr_split}
+use Rattle.std.proofs.lemmas.Nat.Bits.{bit_at_above, bit_at_cat_low, bit_at_lowest, bit_at-lt, bit_at-suc, bit_at-zero, same_from_bits, same_from_bits_below}
 use Rattle.std.proofs.lemmas.List.{get_or-drop}
-use Rattle.std.proofs.lemmas.Bool.{cases_eq, eqb-false}
 use Rattle.std.proofs.lemmas.Bool.Decides.{nat_tests}
 use Rattle.readings.specs.Bits.{Bytes, bit, little}
 
@@ -29,6 +30,10 @@ little_eight (a ∷ b ∷ c ∷ d ∷ e ∷ f ∷ g ∷ h ∷ i ∷ more) l = ab
 pub pow_mono : (i j : ℕ) → i ≤ j → 2 ^ i ≤ 2 ^ j
 pow_mono i j h = pow-le-pow_right (omega arith) h
 
+-- nothing is left of a number of 64 bits above these
+pub shifted_out : (w n : ℕ) → w < 2 ^ 64 → 64 ≤ n → w / 2 ^ n ≡ 0
+shifted_out w n h l = let big = pow_mono 64 n l in div-eq_of_lt (omega (arith, big))
+
 pub shr_none : (w n : ℕ) → w / 2 ^ n ≡ 0 → w < 2 ^ n
 shr_none w n e =
     let f : 0 * 2 ^ n + w % 2 ^ n ≡ w = subst (λ (x : ℕ). x * 2 ^ n + w % 2 ^ n ≡ w) e (shr_split w n) in
@@ -39,16 +44,16 @@ shr_none w n e =
 
 pub bit-zero : (w : ℕ) → bit w 0 ≡ eqb (w % 2) 1
 unfolding bit
-bit-zero w = ap (λ (x : ℕ). eqb (x % 2) 1) (div-one w)
+bit-zero w = ap (λ (x : ℕ). eqb x 1) (bit_at_lowest w)
 
 -- a bit above the lowest is one of the half
 pub bit-suc : (w i : ℕ) → bit w (suc i) ≡ bit (w / 2) i
 unfolding bit
-bit-suc w i = ap (λ (x : ℕ). eqb (x % 2) 1) (ap (λ (x : ℕ). w / x) (pow-succ' 2 i) ∙ sym (div-div-eq-div-mul w 2 (2 ^ i)))
+bit-suc w i = ap (λ (x : ℕ). eqb x 1) (bit_at-suc w i)
 
 pub bit_none : (i : ℕ) → bit 0 i ≡ false
 unfolding bit
-bit_none i = ap (λ (x : ℕ). eqb (x % 2) 1) (zero-div (2 ^ i))
+bit_none i = ap (λ (x : ℕ). eqb x 1) (bit_at-zero i)
 
 pub bit-shr : (w k i : ℕ) → bit (w / 2 ^ k) i ≡ bit w (k + i)
 unfolding bit
@@ -56,27 +61,19 @@ bit-shr w k i = ap (λ (x : ℕ). eqb (x % 2) 1) (shr-shr w k i)
 
 -- the bits of a number below 2 ^ k stay where they are under a multiple of it
 pub bit_low : (k x y i : ℕ) → i < k → bit (x + 2 ^ k * y) i ≡ bit x i
-bit_low zero x y i l = absurd (omega arith)
-bit_low (suc k) x y zero l =
-    let e = ap (λ (n : ℕ). n * y) (pow-succ' 2 k) ∙ mul_assoc 2 (2 ^ k) y in
-    let low : (x + 2 ^ suc k * y) % 2 ≡ x % 2 = omega arith in
-    bit-zero (x + 2 ^ suc k * y) ∙ ap (λ (n : ℕ). eqb n 1) low ∙ sym (bit-zero x)
-bit_low (suc k) x y (suc i) l =
-    let e = ap (λ (n : ℕ). n * y) (pow-succ' 2 k) ∙ mul_assoc 2 (2 ^ k) y in
-    let half : (x + 2 ^ suc k * y) / 2 ≡ x / 2 + 2 ^ k * y = omega arith in
-    bit-suc (x + 2 ^ suc k * y) i ∙ ap (λ (n : ℕ). bit n i) half ∙ bit_low k (x / 2) y i (omega arith) ∙ sym (bit-suc x i)
+unfolding bit
+bit_low k x y i l =
+    let e : x + 2 ^ k * y ≡ y * 2 ^ k + x = grind arith in
+    ap (λ (n : ℕ). eqb (bit_at n i) 1) e ∙ ap (λ (n : ℕ). eqb n 1) (bit_at_cat_low y k x i l)
+
+-- a bit is one of two numbers, so that the test tells which
+pub same_digit : (u v : ℕ) → u < 2 → v < 2 → eqb u 1 ≡ eqb v 1 → u ≡ v
+same_digit u v h l e = grind (arith, nat_tests)
 
 -- numbers with the same bits are the same
 pub bits_equal : (k a b : ℕ) → a < 2 ^ k → b < 2 ^ k → ((i : ℕ) → i < k → bit a i ≡ bit b i) → a ≡ b
-bits_equal zero a b h l same = omega arith
-bits_equal (suc k) a b h l same =
-    let e = pow-succ' 2 k in
-    let high = bits_equal k (a / 2) (b / 2) (omega arith) (omega arith) (λ i g. sym (bit-suc a i) ∙ same (suc i) (omega arith) ∙ bit-suc b i) in
-    let low = digit (a % 2) (b % 2) (omega arith) (omega arith) (sym (bit-zero a) ∙ same 0 (omega arith) ∙ bit-zero b) in
-    omega arith
-  where
-    digit : (u v : ℕ) → u < 2 → v < 2 → eqb u 1 ≡ eqb v 1 → u ≡ v
-    digit u v h l e = grind (arith, nat_tests)
+unfolding bit
+bits_equal k a b h l same = same_from_bits_below k a b h l (λ i g. same_digit (bit_at a i) (bit_at b i) (bit_at-lt a i) (bit_at-lt b i) (same i g))
 
 -- ---- bytes
 
@@ -108,22 +105,12 @@ little_bits (x ∷ bytes) small (suc b) i l =
 
 pub bits_above : (w n : ℕ) → w < 2 ^ n → (i : ℕ) → n ≤ i → bit w i ≡ false
 unfolding bit
-bits_above w n h i l =
-    let m = pow_mono n i l in
-    let small : w < 2 ^ i = omega arith in
-    ap (λ (x : ℕ). eqb (x % 2) 1) (div-eq_of_lt small)
+bits_above w n h i l = ap (λ (x : ℕ). eqb x 1) (bit_at_above w n i h l)
 
-no_bits : (k w : ℕ) → w ≤ k → ((i : ℕ) → bit w i ≡ false) → w ≡ 0
-no_bits zero w h none = omega arith
-no_bits (suc k) w h none =
-    let low = eqb-false (w % 2) 1 (sym (bit-zero w) ∙ none 0) in
-    let even : w % 2 ≡ 0 = omega (arith, low) in
-    by (cases_eq w 0) even (λ l. no_bits k (w / 2) l (λ i. sym (bit-suc w i) ∙ none (suc i)))
-  where
-    by : (w ≡ 0) ⊎ (w ≡ 0 → ⊥) → w % 2 ≡ 0 → (w / 2 ≤ k → w / 2 ≡ 0) → w ≡ 0
-    by (inl e) even half = e
-    by (inr ne) even half = let e = half (omega (arith, ne)) in omega arith
+no_bits : (w : ℕ) → ((i : ℕ) → bit w i ≡ false) → w ≡ 0
+unfolding bit
+no_bits w none = same_from_bits w 0 (λ i. same_digit (bit_at w i) (bit_at 0 i) (bit_at-lt w i) (bit_at-lt 0 i) (none i ∙ sym (bit_none i)))
 
 pub below_from_bits : (w n : ℕ) → ((i : ℕ) → n ≤ i → bit w i ≡ false) → w < 2 ^ n
 below_from_bits w n none =
-    shr_none w n (no_bits (w / 2 ^ n) (w / 2 ^ n) (omega arith) (λ i. bit-shr w n i ∙ none (n + i) (omega arith)))
+    shr_none w n (no_bits (w / 2 ^ n) (λ i. bit-shr w n i ∙ none (n + i) (omega arith)))

@@ -1,7 +1,9 @@
 -- What holds of a table's file as it is read.
-use Rattle.std.proofs.Common.{◌≡◌, ℕ, zero, suc, ◌+◌, ◌-◌, ◌*◌, ◌^◌, ◌<◌, Bool, true, false, cond, eqb, ltb, List, [], ◌∷◌, length, get_or, take, drop, Some, None, Ok, Err, Option, Result, sym, refl, ap, ◌∙◌, ap₂, inl, inr, arith}
+use Rattle.std.proofs.Common.{◌≡◌, ℕ, zero, suc, ◌+◌, ◌-◌, ◌*◌, ◌^◌, ◌<◌, Bool, true, false, cond, not, eqb, ltb, List, [], ◌∷◌, map, length, get_or, take, drop, Some, None, Ok, Err, Option, Result, sym, refl, ap, ◌∙◌, ap₂, inl, inr, arith}
 use native.Mathlib.Nat.{div-eq_of_lt}
-use Rattle.std.proofs.lemmas.List.{at_drop_more, get_or-drop, get_or_past, get_or-take}
+use Rattle.std.specs.List.{find, range_with_len}
+use Rattle.std.specs.Simd.{first_chunks}
+use Rattle.std.proofs.lemmas.List.{drop-drop, get_or-drop, get_or_past, get_or-take}
 use Rattle.std.proofs.lemmas.List.FromFn.{get_or-map-range_with_len, length-map-range_with_len}
 use Rattle.std.proofs.lemmas.Bool.{cases_lt, cond_above, cond_below, eq-eqb, eqb-true}
 use Rattle.readings.proofs.Bits.{below_from_bits, bits_above, bytes_drop, bytes_take, little_bits, shr_none}
@@ -33,6 +35,23 @@ row_or_none bytes m p =
 pub row_eight : (bytes : List ℕ) (p : ℕ) → row_at bytes p ≡ little (take 8 (drop (8 * p) bytes))
 row_eight bytes p = let e : 8 * p + 8 - 8 * p ≡ 8 = omega arith in ap (λ (k : ℕ). little (take k (drop (8 * p) bytes))) e
 
+pub row_at-zero : (bytes : List ℕ) → row_at bytes 0 ≡ little (take 8 bytes)
+row_at-zero bytes = row_eight bytes 0
+
+pub row_at-suc : (bytes : List ℕ) (p : ℕ) → row_at bytes (suc p) ≡ row_at (drop 8 bytes) p
+row_at-suc bytes p =
+    let e : 8 * suc p ≡ 8 + 8 * p = omega arith in
+    row_eight bytes (suc p)
+    ∙ ap (λ (k : ℕ). little (take 8 (drop k bytes))) e
+    ∙ ap (λ (xs : List ℕ). little (take 8 xs)) (sym (drop-drop (8 * p) 8 bytes))
+    ∙ sym (row_eight (drop 8 bytes) p)
+
+-- the part of a place, where the bytes are cut into eights
+pub chunk_row : (k : ℕ) (bytes : List ℕ) (p : ℕ) → p < k → little (get_or (first_chunks 8 k bytes) p []) ≡ row_at bytes p
+chunk_row zero bytes p h = absurd (omega arith)
+chunk_row (suc k) bytes zero h = sym (row_at-zero bytes)
+chunk_row (suc k) bytes (suc p) h = chunk_row k (drop 8 bytes) p (omega arith) ∙ sym (row_at-suc bytes p)
+
 pub row_bits : RowBits
 row_bits bytes small p b i hb hi =
     ap (λ (w : ℕ). bit w (8 * b + i)) (row_eight bytes p)
@@ -45,24 +64,17 @@ known_bits n w = (
   λ none. eq-eqb _ _ (div-eq_of_lt (below_from_bits w n none)),
 )
 
--- ---- the first stranger, one row on
+-- ---- the first stranger
 
-stranger_step : (n p : ℕ) (rows : List ℕ) (b : Bool) → p < length rows → known n (get_or rows p 0) ≡ b →
-    stranger n p (drop p rows) ≡ cond b (stranger n (p + 1) (drop (p + 1) rows)) (Some p)
-stranger_step n p rows b l h = at_drop_more (stranger n p) rows p 0 l ∙ ap (λ x. cond x (stranger n (p + 1) (drop (p + 1) rows)) (Some p)) h
-
-module _ (n p m : ℕ) (bytes : List ℕ) (l : p < m) where
-  step : (b : Bool) → known n (row_at bytes p) ≡ b →
-      stranger n p (drop p (rows_in bytes m)) ≡ cond b (stranger n (p + 1) (drop (p + 1) (rows_in bytes m))) (Some p)
-  step b h =
-      let e = length-rows_in bytes m in
-      stranger_step n p (rows_in bytes m) b (omega arith) (ap (known n) (get_or-rows_in bytes m p l) ∙ h)
-
-  pub stranger_more : known n (row_at bytes p) ≡ true → stranger n p (drop p (rows_in bytes m)) ≡ stranger n (p + 1) (drop (p + 1) (rows_in bytes m))
-  stranger_more = step true
-
-  pub stranger_here : known n (row_at bytes p) ≡ false → stranger n p (drop p (rows_in bytes m)) ≡ Some p
-  stranger_here = step false
+-- it is the first place, from a on, whose row is not known
+stranger_from : (n : ℕ) (bytes : List ℕ) (m a : ℕ) → find (λ p. not (known n (row_at bytes p))) (range_with_len a m) ≡ stranger n a (map (row_at bytes) (range_with_len a m))
+stranger_from n bytes zero a = refl
+stranger_from n bytes (suc m) a =
+    let later = range_with_len (a + 1) m in
+    elim (known n (row_at bytes a)) as (λ b. cond (not b) (Some a) (find (λ p. not (known n (row_at bytes p))) later) ≡ cond b (stranger n (a + 1) (map (row_at bytes) later)) (Some a)) [
+      | true ↦ stranger_from n bytes m (a + 1)
+      | false ↦ refl
+    ]
 
 -- ---- no stranger
 
@@ -79,10 +91,13 @@ known_from n p (w ∷ rows) e q l = by (known n w) refl (λ f. known_from n (p +
 pub rows_known : (n : ℕ) (rows : List ℕ) → stranger n 0 rows ≡ None → (p : ℕ) → p < length rows → get_or rows p 0 < 2 ^ n
 rows_known n rows = known_from n 0 rows
 
-pub all_known : (n m : ℕ) (bytes : List ℕ) → stranger n 0 (rows_in bytes m) ≡ None → AllKnown n m bytes
-all_known n m bytes e p l =
-    let many = length-rows_in bytes m in
-    rw get_or-rows_in at (rows_known n (rows_in bytes m) e p (omega arith))
+-- what was found by going from place to place, said of the rows
+module _ (n m : ℕ) (bytes : List ℕ) (r : Option ℕ) (found : r ≡ find (λ p. not (known n (row_at bytes p))) (range_with_len 0 m)) where
+  pub stranger_is : stranger n 0 (rows_in bytes m) ≡ r
+  stranger_is = sym (found ∙ stranger_from n bytes m 0)
+
+  pub all_known : r ≡ None → AllKnown n m bytes
+  all_known e = record { at = λ p l. rw get_or-rows_in at (rows_known n (rows_in bytes m) (stranger_is ∙ e) p (rw length-rows_in l)) }
 
 -- ---- a file that is read
 

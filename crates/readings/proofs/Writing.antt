@@ -2,7 +2,7 @@
 use Rattle.std.proofs.Common.{◌≡◌, ℕ, zero, suc, ◌+◌, ◌*◌, ◌/◌, ◌%◌, ◌^◌, ◌<◌, ◌≤◌, ◌||◌, eqb, ltb, List, [], ◌∷◌, ◌++◌, map, length, get_or, take, drop, None, Ok, sym, refl, ap, ◌∙◌, ap₂, pow-suc, arith, length-append}
 use native.Mathlib.Nat.{div-eq_of_lt}
 use Rattle.std.specs.List.{range_with_len, flat_map}
-use Rattle.std.proofs.lemmas.List.{take_at, drop_at, drop-drop, take-append-drop, length-take-le, length-drop, nil_from_length}
+use Rattle.std.proofs.lemmas.List.{take_at, drop_at, take-append-drop, length-take-le, length-drop, nil_from_length}
 use Rattle.std.proofs.lemmas.List.FromFn.{fill_by_all, get_or-map-range_with_len, length-map-range_with_len}
 use Rattle.readings.specs.Bits.{Bytes, little}
 use Rattle.std.proofs.lemmas.Bool.{cond-true, cond-false, eq-eqb, ne_eqb, le-ltb, or_from, or_parts, eqb-false, ltb-false}
@@ -11,7 +11,7 @@ use Rattle.readings.specs.Files.{and_then, books_in, bytes_of, unless_stranger, 
 use Rattle.readings.specs.Statements.{ReadsBack, OnlyWritten}
 use Rattle.readings.specs.Writing.{file_of, in_bytes}
 use Rattle.readings.proofs.Bits.{bytes_drop, bytes_take, pow_mono}
-use Rattle.readings.proofs.Files.{rows_known, length-rows_in, row_eight, taken}
+use Rattle.readings.proofs.Files.{length-rows_in, row_at-suc, row_at-zero, rows_known, taken}
 
 -- ---- numbers in bytes
 
@@ -38,17 +38,6 @@ in_bytes-little (b ∷ bytes) small =
     ap₂ (λ (x : ℕ) (xs : List ℕ). x ∷ xs) low (ap (in_bytes (length bytes)) high ∙ in_bytes-little bytes (λ k. small (suc k)))
 
 -- ---- rows in bytes
-
-row_at-zero : (bytes : List ℕ) → row_at bytes 0 ≡ little (take 8 bytes)
-row_at-zero bytes = row_eight bytes 0
-
-row_at-suc : (bytes : List ℕ) (p : ℕ) → row_at bytes (suc p) ≡ row_at (drop 8 bytes) p
-row_at-suc bytes p =
-    let e : 8 * suc p ≡ 8 + 8 * p = omega arith in
-    row_eight bytes (suc p)
-    ∙ ap (λ (k : ℕ). little (take 8 (drop k bytes))) e
-    ∙ ap (λ (xs : List ℕ). little (take 8 xs)) (sym (drop-drop (8 * p) 8 bytes))
-    ∙ sym (row_eight (drop 8 bytes) p)
 
 length_joined : (rows : List ℕ) → length (flat_map (in_bytes 8) rows) ≡ 8 * length rows
 length_joined [] = refl

@@ -7,8 +7,7 @@
 --   stranger               the first place with a book that is not there
 --   bytes_of               the bytes of the rows, or the refusal on their account
 --   Contents, reading      what a whole file holds, or the first refusal of the list
-use Rattle.std.specs.Borrow.{Bor}
-use Rattle.std.specs.Prelude.{ℕ, ◌+◌, ◌*◌, ◌/◌, ◌^◌, ◌<◌, Bool, cond, ◌||◌, List, [], ◌∷◌, map, length, drop, Some, None, Ok, Err, Option, Result, ◌==◌, nat_lt, slice_index}
+use Rattle.std.specs.Prelude.{ℕ, ◌+◌, ◌*◌, ◌/◌, ◌^◌, ◌<◌, Bool, if◌then◌else◌, ◌||◌, List, [], ◌∷◌, ◌++◌, codes, decimal, map, length, drop, Some, None, Ok, Err, Option, Result, ◌==◌, nat_lt, slice_index}
 use Rattle.std.specs.List.{range_with_len, between}
 use Rattle.readings.specs.Bits.{little}
 use Rattle.readings.specs.declared.refusals.Refusal.{Refusal}
@@ -34,7 +33,14 @@ abbrev pub no_places : List ℕ → Bool
 no_places file = nat_lt (length file) 3 || nat_lt 2048 (places_in file)
 
 abbrev pub sizes_of : List ℕ → Result Sizes Refusal
-sizes_of file = cond (no_books file) (Err BookCount) (cond (no_places file) (Err PlaceCount) (Ok (record { books = books_in file; places = places_in file })))
+sizes_of file =
+    if no_books file then Err BookCount
+    else if no_places file then Err PlaceCount
+    else Ok (record { books = books_in file; places = places_in file })
+
+-- as they are printed
+abbrev pub sizes_text : Sizes → List ℕ
+sizes_text s = codes "books " ++ (decimal s.books ++ (codes ", places " ++ decimal s.places))
 
 -- ---- the rows
 
@@ -51,13 +57,13 @@ abbrev pub known : ℕ → ℕ → Bool
 known n w = w / 2 ^ n == 0
 
 -- so it is at each of m places: the row is below 2 ^ n
-abbrev pub AllKnown : ℕ → ℕ → List ℕ → Type 0
-AllKnown n m bytes = (p : ℕ) → p < m → row_at bytes p < 2 ^ n
+pub record AllKnown (n m : ℕ) (bytes : List ℕ) : Type 0 where
+  pub at : (p : ℕ) → p < m → row_at bytes p < 2 ^ n
 
 -- the first row that is not known, counted from p
 abbrev pub stranger : ℕ → ℕ → List ℕ → Option ℕ
 stranger n p [] = None
-stranger n p (w ∷ rows) = cond (known n w) (stranger n (p + 1) rows) (Some p)
+stranger n p (w ∷ rows) = if known n w then stranger n (p + 1) rows else Some p
 
 abbrev pub unless_stranger : Option ℕ → List ℕ → Result (List ℕ) Refusal
 unless_stranger None bytes = Ok bytes
@@ -66,7 +72,8 @@ unless_stranger (Some p) bytes = Err (UnknownBook p)
 -- the bytes after the sizes, if they are eight for each place and no book in them is a stranger
 abbrev pub bytes_of : List ℕ → Sizes → Result (List ℕ) Refusal
 bytes_of file s =
-    cond (length file == 3 + 8 * s.places) (unless_stranger (stranger s.books 0 (rows_in (drop 3 file) s.places)) (drop 3 file)) (Err (TableLength (length file)))
+    if length file == 3 + 8 * s.places then unless_stranger (stranger s.books 0 (rows_in (drop 3 file) s.places)) (drop 3 file)
+    else Err (TableLength (length file))
 
 -- ---- the whole file
 
@@ -74,10 +81,6 @@ bytes_of file s =
 pub record Contents : Type 0 where
   pub books : ℕ
   pub rows : List ℕ
-
--- what sizes and the bytes of the rows come to
-abbrev pub contents : Sizes × Bor (List ℕ) → Contents
-contents (s, bytes) = record { books = s.books; rows = rows_in bytes.now s.places }
 
 -- the next step at what the step before handed on, or its refusal
 abbrev pub and_then : {X Y : Type 0} → Result X Refusal → (X → Result Y Refusal) → Result Y Refusal

@@ -1,5 +1,5 @@
 -- The list of refusals: the number of each, and its place. Assumes nothing: these are definitions.
-use Rattle.std.specs.Prelude.{ℕ}
+use Rattle.std.specs.Prelude.{ℕ, ◌++◌, List, codes, decimal}
 use Rattle.readings.specs.declared.refusals.Lent.{Lent}
 use Rattle.readings.specs.declared.refusals.Lent.TheVariants.{Sets, Nodes, Homes}
 use Rattle.readings.specs.declared.refusals.Refusal.{Refusal}
@@ -34,3 +34,7 @@ place (BadHome i) = i
 place (BadChange p) = p
 place (TreeLength bytes) = bytes
 place (Room slice) = slice_number slice
+
+-- the line in which it is told of
+abbrev pub refusal_text : Refusal → List ℕ
+refusal_text refusal = codes "refused " ++ (decimal (number refusal) ++ (codes " at " ++ decimal (place refusal)))

@@ -1,7 +1,7 @@
 -- Tables of readings. Assumes nothing: these are definitions.
 use Rattle.std.specs.Prelude.{◌≡◌, ℕ, Bool, true, false, not, List, length, slice_index, refl}
 use Rattle.readings.specs.Bits.{bit}
-use Rattle.readings.specs.Files.{rows_in}
+use Rattle.readings.specs.Files.{Contents, rows_in}
 use Rattle.readings.specs.declared.file.Sizes.{Sizes}
 use Rattle.readings.specs.declared.view.Rows.{Rows}
 
@@ -37,3 +37,7 @@ table_at s bytes = table_of s.books (rows_in bytes s.places)
 
 abbrev pub table_in : Rows → Table
 table_in rows = table_at rows.sizes rows.bytes.now
+
+-- the contents of a file, as a view of them has these
+abbrev pub contents : Rows → Contents
+contents rows = record { books = rows.sizes.books; rows = rows_in rows.bytes.now rows.sizes.places }

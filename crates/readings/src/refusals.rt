@@ -1,9 +1,12 @@
 // The list of refusals: why a file is turned away, and where.
-ghost use Rattle.readings.specs.Refusals.{number, place, slice_number};
-ghost use Rattle.std.specs.Prelude.{◌≡◌};
+ghost use Rattle.readings.specs.Refusals.{number, place, refusal_text, slice_number};
+ghost use Rattle.std.specs.Prelude.{◌≡◌, Some};
+
+use std::error::Error;
+use std::fmt;
 
 // The lent slices, in the order in which their lengths are tested; `Homes` also stands for that of the changes.
-#[derive(Clone, Copy)]
+#[derive(Clone, Copy, Debug, PartialEq, Eq)]
 pub enum Lent {
     Sets,
     Nodes,
@@ -11,7 +14,7 @@ pub enum Lent {
 }
 
 // Why a file is turned away, by the list's numbers from 1 to 10, each with its place.
-#[derive(Clone, Copy)]
+#[derive(Clone, Copy, Debug, PartialEq, Eq)]
 pub enum Refusal {
     // The number of books is missing, 0 or above 64.
     BookCount,
@@ -36,7 +39,7 @@ pub enum Refusal {
 }
 
 impl Refusal {
-    // The number in the list.
+    // The number in the list: what is printed, and so a number.
     pub fn number(self) -> u8
         ensures { result ≡ number self }
     {
@@ -54,7 +57,7 @@ impl Refusal {
         }
     }
 
-    // The place in the file, or which slice.
+    // The place in the file, or which slice, as it is printed.
     pub fn place(self) -> usize
         ensures { result ≡ place self }
     {
@@ -62,19 +65,32 @@ impl Refusal {
             Refusal::BookCount => 0,
             Refusal::PlaceCount => 1,
             Refusal::TableLength(bytes) => bytes,
-            Refusal::UnknownBook(p) => p as usize,
-            Refusal::NodeCount(k) => k as usize,
-            Refusal::NoSmaller(v) => v as usize,
-            Refusal::BadHome(i) => i as usize,
-            Refusal::BadChange(p) => p as usize,
+            Refusal::UnknownBook(p) => usize::from(p),
+            Refusal::NodeCount(k) => usize::from(k),
+            Refusal::NoSmaller(v) => usize::from(v),
+            Refusal::BadHome(i) => usize::from(i),
+            Refusal::BadChange(p) => usize::from(p),
             Refusal::TreeLength(bytes) => bytes,
             Refusal::Room(slice) => slice.number(),
         }
     }
 }
 
+// The line in which it is told of.
+impl fmt::Display for Refusal {
+    ghost output = { λ refusal. Some (refusal_text refusal) };
+
+    fn fmt<W: fmt::Write>(&self, f: &mut fmt::Formatter<W>) -> fmt::Result {
+        let number = self.number();
+        let place = self.place();
+        write!(f, "refused {number} at {place}")
+    }
+}
+
+impl Error for Refusal {}
+
 impl Lent {
-    // Its number in that order.
+    // Its number in that order, as it is printed.
     pub fn number(self) -> usize
         ensures { result ≡ slice_number self }
     {

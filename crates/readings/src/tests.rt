@@ -1,82 +1,82 @@
 // Worked examples: one table's file whole, and each refusal of the list for a table.
-use crate::{Lent, Refusal, Rows, read, read_rows, read_sizes};
+use crate::{Lent, Refusal, Sizes, read};
+use std::alloc::AllocError;
 
 // Four books and three places, whose rows have the books 1 and 2, then 2, then 3.
 const FIRST: &[u8; 27] = b"\x04\x03\0\x06\0\0\0\0\0\0\0\x04\0\0\0\0\0\0\0\x08\0\0\0\0\0\0\0";
 
-// The number and the place of the refusal, or 0 and the number of places.
-fn said(file: &[u8]) -> (u8, usize) {
+// The number of places, or the number and the place of the refusal.
+fn said(file: &[u8]) -> Result<u16, (u8, usize)> {
     match read(file) {
-        Ok((sizes, _)) => (0, sizes.places as usize),
-        Err(refusal) => (refusal.number(), refusal.place()),
+        Ok(rows) => Ok(rows.places()),
+        Err(refusal) => Err((refusal.number(), refusal.place())),
     }
 }
 
 // The sizes and the row of a place, through the view that spares the checks.
-fn view(file: &[u8], p: u16) -> Result<(u8, u16, u64), Refusal> {
-    let sizes = read_sizes(file)?;
-    let bytes = read_rows(file, sizes)?;
-    let rows = Rows { sizes, bytes };
+fn seen(file: &[u8], p: u16) -> Result<(u8, u16, u64), Refusal> {
+    let rows = read(file)?;
     Ok((rows.books(), rows.places(), rows.row(p)))
-}
-
-// The same, or zeros for a file that is turned away.
-fn seen(file: &[u8], p: u16) -> (u8, u16, u64) {
-    match view(file, p) {
-        Ok(seen) => seen,
-        Err(_) => (0, 0, 0),
-    }
 }
 
 #[test]
 fn reads_the_first_table(rt: HostRuntime) {
-    assert_eq!(rt; said(FIRST), (0, 3));
-    assert_eq!(rt; seen(FIRST, 0), (4, 3, 6));
-    assert_eq!(rt; seen(FIRST, 2), (4, 3, 8));
-    assert_eq!(rt; seen(FIRST, 3), (4, 3, 0));
+    assert_eq!(rt; said(FIRST), Ok(3));
+    assert_eq!(rt; seen(FIRST, 0), Ok((4, 3, 6)));
+    assert_eq!(rt; seen(FIRST, 2), Ok((4, 3, 8)));
+    assert_eq!(rt; seen(FIRST, 3), Ok((4, 3, 0)));
 }
 
 #[test]
 fn refuses_sizes(rt: HostRuntime) {
-    assert_eq!(rt; said(&[]), (1, 0));
-    assert_eq!(rt; said(&[0, 0, 0]), (1, 0));
-    assert_eq!(rt; said(&[65, 1, 8]), (1, 0));
-    assert_eq!(rt; said(&[64, 0]), (2, 1));
-    assert_eq!(rt; said(&[64, 1, 8]), (2, 1));
+    assert_eq!(rt; said(&[]), Err((1, 0)));
+    assert_eq!(rt; said(&[0, 0, 0]), Err((1, 0)));
+    assert_eq!(rt; said(&[65, 1, 8]), Err((1, 0)));
+    assert_eq!(rt; said(&[64, 0]), Err((2, 1)));
+    assert_eq!(rt; said(&[64, 1, 8]), Err((2, 1)));
 }
 
 #[test]
 fn refuses_rows(rt: HostRuntime) {
-    assert_eq!(rt; said(&[64, 0, 8]), (3, 3));
+    assert_eq!(rt; said(&[64, 0, 8]), Err((3, 3)));
     let mut file = *FIRST;
-    assert_eq!(rt; said(&file[0..26]), (3, 26));
+    assert_eq!(rt; said(&file[0..26]), Err((3, 26)));
     file[11] = 16;
-    assert_eq!(rt; said(&file), (4, 1));
+    assert_eq!(rt; said(&file), Err((4, 1)));
 }
 
-// Each refusal in the order of the list, with a place of its own where it has one.
-const LIST: [Refusal; 10] = [
-    Refusal::BookCount,
-    Refusal::PlaceCount,
-    Refusal::TableLength(103),
-    Refusal::UnknownBook(104),
-    Refusal::NodeCount(105),
-    Refusal::NoSmaller(106),
-    Refusal::BadHome(107),
-    Refusal::BadChange(108),
-    Refusal::TreeLength(109),
-    Refusal::Room(Lent::Homes),
+// Each refusal with its number and its place, in the order of the list, with a place of its own where it has one.
+const LIST: [(Refusal, u8, usize); 12] = [
+    (Refusal::BookCount, 1, 0),
+    (Refusal::PlaceCount, 2, 1),
+    (Refusal::TableLength(103), 3, 103),
+    (Refusal::UnknownBook(104), 4, 104),
+    (Refusal::NodeCount(105), 5, 105),
+    (Refusal::NoSmaller(106), 6, 106),
+    (Refusal::BadHome(107), 7, 107),
+    (Refusal::BadChange(108), 8, 108),
+    (Refusal::TreeLength(109), 9, 109),
+    (Refusal::Room(Lent::Sets), 10, 0),
+    (Refusal::Room(Lent::Nodes), 10, 1),
+    (Refusal::Room(Lent::Homes), 10, 2),
 ];
-
-const PLACES: [usize; 10] = [0, 1, 103, 104, 105, 106, 107, 108, 109, 2];
 
 #[test]
 fn numbers_the_list(rt: HostRuntime) {
-    for k in 0..10 {
-        let refusal = LIST[k];
-        assert_eq!(rt; refusal.number() as usize, k + 1);
-        assert_eq!(rt; refusal.place(), PLACES[k]);
+    for (refusal, number, place) in LIST {
+        assert_eq!(rt; refusal.number(), number);
+        assert_eq!(rt; refusal.place(), place);
     }
-    assert_eq!(rt; Refusal::Room(Lent::Sets).place(), 0);
-    assert_eq!(rt; Refusal::Room(Lent::Nodes).place(), 1);
+}
+
+#[test]
+fn prints(rt: HostRuntime) -> Result<(), AllocError> {
+    let sizes = Sizes {
+        books: 4,
+        places: 3,
+    };
+    assert_eq!(rt; sizes.to_string(rt.alloc())?.as_str(), "books 4, places 3");
+    let refusal = Refusal::UnknownBook(1);
+    assert_eq!(rt; refusal.to_string(rt.alloc())?.as_str(), "refused 4 at 1");
+    Ok(())
 }

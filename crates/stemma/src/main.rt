@@ -1,10 +1,11 @@
 // The program `stemma`: says of a table's file what it holds, or why it is turned away.
 #![tactic(auto)]
 
-use readings::{Refusal, Sizes};
-use std::fmt::Display;
+use std::alloc::AllocGlobal;
+use std::env::{self, Env};
+use std::fs::{self, Files};
 use std::process::ExitCode;
-use std::{env, fs, io};
+use std::{fmt, io};
 
 const HELP: &str = "usage: stemma TABLE
 
@@ -26,107 +27,97 @@ says so, and nothing is printed.
 
 const VERSION: &str = "stemma 0.1.0";
 
-// The program ends with status 1; what there is to say was said.
-#[derive(Drop)]
-struct Failed;
-
 // What the arguments ask for.
 #[derive(Drop)]
 enum Request {
     Help,
     Version,
     Table(String),
-    // No file is named.
-    Nothing,
-    Unknown(String),
-    TooMuch(String),
 }
 
-fn requested(rt: &HostRuntime) -> io::Result<Request> {
-    let mut words = env::args(rt)?;
-    let _ = words.next();
+// Why there is no answer.
+#[derive(Debug, Drop)]
+enum Failure {
+    Arguments(io::Error),
+    NoFile,
+    UnknownOption(String),
+    SecondFile(String),
+    // The file that was named.
+    Reading(String, io::Error),
+    Writing(io::Error),
+}
+
+impl fmt::Display for Failure {
+    fn fmt<W: fmt::Write>(&self, f: &mut fmt::Formatter<W>) -> fmt::Result {
+        match self {
+            Failure::Arguments(error) => {
+                write!(
+                    f,
+                    "cannot read the arguments, which have to be UTF-8: {error}"
+                )
+            }
+            Failure::NoFile => f.write_str("no file is named (try stemma --help)"),
+            Failure::UnknownOption(word) => {
+                write!(f, "unknown option {word:?} (try stemma --help)")
+            }
+            Failure::SecondFile(word) => {
+                write!(f, "one file is read, not also {word:?} (try stemma --help)")
+            }
+            Failure::Reading(path, error) => write!(f, "cannot read {path:?}: {error}"),
+            Failure::Writing(error) => write!(f, "cannot write the answer: {error}"),
+        }
+    }
+}
+
+fn requested(rt: &(impl Env + AllocGlobal)) -> Result<Request, Failure> {
+    let mut words = env::args(rt).map_err(Failure::Arguments)?.skip(1);
     let Some(first) = words.next() else {
-        return Ok(Request::Nothing);
+        return Err(Failure::NoFile);
     };
-    if first.as_str() == "--help" {
-        return Ok(Request::Help);
-    }
-    if first.as_str() == "--version" {
-        return Ok(Request::Version);
-    }
-    if first.as_str().starts_with("-") {
-        return Ok(Request::Unknown(first));
-    }
-    match words.next() {
-        Some(second) => Ok(Request::TooMuch(second)),
-        None => Ok(Request::Table(first)),
+    match first.as_str() {
+        "--help" => Ok(Request::Help),
+        "--version" => Ok(Request::Version),
+        word if word.starts_with('-') => Err(Failure::UnknownOption(first)),
+        _ => match words.next() {
+            Some(second) => Err(Failure::SecondFile(second)),
+            None => Ok(Request::Table(first)),
+        },
     }
 }
 
-// Says on standard error why there is no answer.
-fn complain(rt: &HostRuntime, why: impl Display + Drop) -> Result<(), Failed> {
-    let _ = eprintln!(rt; "stemma: {why}");
-    Err(Failed)
-}
-
-// What was printed is an answer only if it could be written.
-fn written(rt: &HostRuntime, outcome: io::Result<()>) -> Result<(), Failed> {
-    match outcome {
-        Ok(()) => Ok(()),
-        Err(error) => complain(rt, format_args!("cannot write the answer: {error}")),
+// A refusal is an answer too, and ends the program with status 1.
+fn answer_table(
+    rt: &(impl Files + Print + AllocGlobal),
+    path: String,
+) -> Result<ExitCode, Failure> {
+    let file = fs::read(rt, path.as_str()).map_err(|error| Failure::Reading(path, error))?;
+    match readings::read(&file) {
+        Ok(rows) => {
+            println!(rt; "{}", rows.sizes).map_err(Failure::Writing)?;
+            Ok(ExitCode::SUCCESS)
+        }
+        Err(refusal) => {
+            println!(rt; "{refusal}").map_err(Failure::Writing)?;
+            Ok(ExitCode::FAILURE)
+        }
     }
 }
 
-fn show_sizes(rt: &HostRuntime, sizes: Sizes) -> Result<(), Failed> {
-    let Sizes { books, places } = sizes;
-    written(rt, println!(rt; "books {books}, places {places}"))
-}
-
-fn show_refusal(rt: &HostRuntime, refusal: Refusal) -> Result<(), Failed> {
-    let number = refusal.number();
-    let place = refusal.place();
-    written(rt, println!(rt; "refused {number} at {place}"))?;
-    Err(Failed)
-}
-
-fn show_table(rt: &HostRuntime, path: &str) -> Result<(), Failed> {
-    let file = match fs::read(rt, path) {
-        Ok(file) => file,
-        Err(error) => return complain(rt, format_args!("cannot read {path:?}: {error}")),
-    };
-    match readings::read(file.as_slice()) {
-        Ok((sizes, _)) => show_sizes(rt, sizes),
-        Err(refusal) => show_refusal(rt, refusal),
+fn answer(rt: &(impl Env + Files + Print + AllocGlobal)) -> Result<ExitCode, Failure> {
+    match requested(rt)? {
+        Request::Help => print!(rt; "{HELP}").map_err(Failure::Writing)?,
+        Request::Version => println!(rt; "{VERSION}").map_err(Failure::Writing)?,
+        Request::Table(path) => return answer_table(rt, path),
     }
-}
-
-fn answer(rt: &HostRuntime, request: Request) -> Result<(), Failed> {
-    match request {
-        Request::Help => written(rt, print!(rt; "{HELP}")),
-        Request::Version => written(rt, println!(rt; "{VERSION}")),
-        Request::Table(path) => show_table(rt, path.as_str()),
-        Request::Nothing => complain(rt, "no file is named (try stemma --help)"),
-        Request::Unknown(word) => complain(
-            rt,
-            format_args!("unknown option {word:?} (try stemma --help)"),
-        ),
-        Request::TooMuch(word) => complain(
-            rt,
-            format_args!("one file is read, not also {word:?} (try stemma --help)"),
-        ),
-    }
+    Ok(ExitCode::SUCCESS)
 }
 
 fn main(rt: HostRuntime) -> ExitCode {
-    let done = match requested(&rt) {
-        Ok(request) => answer(&rt, request),
-        Err(error) => complain(
-            &rt,
-            format_args!("cannot read the arguments, which have to be UTF-8: {error}"),
-        ),
-    };
-    match done {
-        Ok(()) => ExitCode::SUCCESS,
-        Err(Failed) => ExitCode::FAILURE,
+    match answer(&rt) {
+        Ok(code) => code,
+        Err(failure) => {
+            let _ = eprintln!(rt; "stemma: {failure}");
+            ExitCode::FAILURE
+        }
     }
 }
