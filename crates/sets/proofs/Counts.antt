@@ -5,7 +5,7 @@ use Rattle.std.proofs.lemmas.Bool.{cases_Bool, cases_lt, false≢true}
 use Rattle.std.proofs.lemmas.Bool.Decides.{nat_tests}
 use Rattle.readings.specs.Bits.{bit}
 use Rattle.readings.proofs.Bits.{bit-suc, bit-zero}
-use Rattle.sets.specs.Sets.{count}
+use Rattle.sets.specs.Sets.{count, size_of}
 
 -- ---- one number
 
@@ -100,3 +100,6 @@ ones-count (suc k) s h =
   where
     digit : (u : ℕ) → u < 2 → cond {A = ℕ} (eqb u 1) 1 0 ≡ u
     digit u h = grind (arith, nat_tests)
+
+pub ones_are : (s : ℕ) → s < 2 ^ 64 → ones s ≡ size_of s
+ones_are = ones-count 64

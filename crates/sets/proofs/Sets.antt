@@ -4,11 +4,10 @@ use lib.Bits.{bit_and, and_le_l}
 use Rattle.std.proofs.lemmas.Bool.{both_ways, cases_eq, cases_lt, eq-eqb, eqb-true, false≢true, le-ltb, lt-ltb}
 use Rattle.readings.specs.Bits.{bit}
 use Rattle.readings.proofs.Bits.{bit_none, bits_above, bits_equal}
-use Rattle.sets.specs.Cited.{complement}
 use Rattle.sets.specs.Sets.{Among, Apart, Members, SameBooks, size_of}
 use Rattle.sets.specs.Statements.{AsLarge, Determined, Empty, Smaller}
 use Rattle.sets.proofs.Counts.{count_le, count_none, count_same}
-use Rattle.sets.proofs.Masks.{bit-bit_and, bit_only}
+use Rattle.sets.proofs.Masks.{bit-bit_and, bit_only, complement}
 
 -- ---- members
 

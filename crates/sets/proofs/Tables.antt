@@ -95,3 +95,6 @@ one_filling t k old x y wx wy fx fy =
   where
     word : (z : List ℕ) (p : ℕ) → p < k → Words z → get_or (take k z) p 0 < 2 ^ 64
     word z p l w = let e = get_or-take k z p 0 l in let h = w p in omega arith
+
+-- the filling of lent memory, step by step
+pub ruleset filling = (none_yet, one_more, in_front)

@@ -1,4 +1,3 @@
-pub mod Cited
 pub mod Sets
 pub mod Statements
 pub mod Tables

@@ -5,7 +5,7 @@
 --   SameBooks              each book is in both or in none
 --   count, size_of         how many numbers have a property; how many books a set has
 --   Smallest               the smallest book with a property, or that there is none
-use Rattle.std.specs.Prelude.{◌≡◌, ℕ, zero, suc, ◌+◌, ◌<◌, Bool, true, false, cond, not, ◌&&◌, ◌||◌, Some, None, Option, ◌≢◌}
+use Rattle.std.specs.Prelude.{◌≡◌, ℕ, zero, suc, ◌+◌, ◌<◌, Bool, true, false, if◌then◌else◌, not, ◌&&◌, ◌||◌, Some, None, Option, ◌≢◌}
 use Rattle.readings.specs.Bits.{bit}
 
 abbrev pub shared : ℕ → ℕ → ℕ → Bool
@@ -33,11 +33,11 @@ SameBooks a b = (i : ℕ) → bit a i ≡ bit b i
 -- how many of the numbers below n have P
 unfoldable pub count : ℕ → (ℕ → Bool) → ℕ
 count zero P = 0
-count (suc n) P = count n P + cond (P n) 1 0
+count (suc n) P = count n P + (if P n then 1 else 0)
 
 abbrev pub size_of : ℕ → ℕ
 size_of s = count 64 (bit s)
 
-unfoldable pub Smallest : (ℕ → Bool) → Option ℕ → Type 0
+abbrev pub Smallest : (ℕ → Bool) → Option ℕ → Type 0
 Smallest P None = (i : ℕ) → i < 64 → P i ≡ false
 Smallest P (Some k) = (k < 64) × (P k ≡ true) × ((i : ℕ) → i < k → P i ≡ false)

@@ -3,38 +3,37 @@ ghost use Rattle.std.specs.Prelude.{◌≡◌, ◌≤◌, nat_eq};
 ghost use Rattle.readings.specs.Bits.{bit};
 ghost use Rattle.sets.specs.Sets.{Members, either, size_of};
 
-use crate::cited::masks_stand;
 use readings::MAX_BOOKS;
 
 // Whether the book is in the set; none from 64 on is.
+#[tactic(auto, using(crate::proofs::Masks::shifted, crate::proofs::Masks::past))]
 pub fn has(set: u64, book: u8) -> bool
     ensures { result ≡ bit set book }
 {
-    masks_stand();
     book < MAX_BOOKS && (set >> book) & 1 == 1
 }
 
-// How many books are in the set, at most 64.
+// How many books are in the set, at most 64: so the cast loses nothing, and `try_from` would only add an error that never comes.
+#[tactic(auto, using(crate::proofs::Counts::ones_are))]
 pub fn size(set: u64) -> u8
     ensures value { result ≡ size_of set }
     ensures within { result ≤ 64 }
 {
-    masks_stand();
     set.count_ones() as u8
 }
 
 // The set of one book; it is empty for a book from 64 on.
+#[tactic(auto, using(crate::proofs::Masks::one, crate::proofs::Masks::one_past))]
 pub fn single(book: u8) -> u64
     ensures { Members result (λ i. nat_eq i book) }
 {
-    masks_stand();
     if book < MAX_BOOKS { 1 << book } else { 0 }
 }
 
 // The books of both sets together.
+#[tactic(auto, using(crate::proofs::Masks::or))]
 pub fn union(a: u64, b: u64) -> u64
     ensures { Members result (either a b) }
 {
-    masks_stand();
     a | b
 }

@@ -1,30 +1,28 @@
 // How two sets lie: one among the other, apart, equal.
 ghost use Rattle.sets.specs.Sets.{Among, Apart, SameBooks};
-ghost use Rattle.std.specs.Prelude.{◌≡◌, Decides, ◌==◌};
-
-use crate::cited::masks_stand;
+ghost use Rattle.std.specs.Prelude.{◌≡◌, ◌↔◌, IsTrue, ◌==◌};
 
 // Whether each book of the first is in the second.
+#[tactic(auto, using(crate::proofs::Sets::among_none_only))]
 pub fn is_among(a: u64, b: u64) -> bool
-    ensures { Decides result (Among a b) }
+    ensures { IsTrue result ↔ Among a b }
 {
-    masks_stand();
     a & !b == 0
 }
 
 // Whether no book is in both.
+#[tactic(auto, using(crate::proofs::Sets::apart_none_shared))]
 pub fn are_apart(a: u64, b: u64) -> bool
-    ensures { Decides result (Apart a b) }
+    ensures { IsTrue result ↔ Apart a b }
 {
-    masks_stand();
     a & b == 0
 }
 
-// Whether the same books are in both.
+// Whether the same books are in both. Sets lie in lent slices of `u64`, so there is no type that could derive this.
+#[tactic(auto, using(crate::proofs::Sets::equal_books))]
 pub fn are_equal(a: u64, b: u64) -> bool
-    ensures books { Decides result (SameBooks a b) }
+    ensures books { IsTrue result ↔ SameBooks a b }
     ensures value { result ≡ (a == b) }
 {
-    masks_stand();
     a == b
 }

@@ -2,7 +2,6 @@
 #![tactic(auto)]
 
 mod books;
-mod cited;
 mod compare;
 mod laws;
 mod least;

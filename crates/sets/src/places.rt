@@ -4,17 +4,16 @@ ghost use Rattle.readings.specs.declared.refusals.Lent.TheVariants.{Sets};
 ghost use Rattle.readings.specs.declared.refusals.Refusal.TheVariants.{Room};
 ghost use Rattle.sets.specs.Tables.{InFront, SetsOf, other_at, otherwise};
 ghost use Rattle.sets.specs.Sets.{Members};
-ghost use Rattle.std.specs.Prelude.{◌≡◌, length, take, if◌then◌else◌, Ok, Err, MatchResult, OnOk, nat_lt};
+ghost use Rattle.std.specs.Prelude.{◌≡◌, length, take, if◌then◌else◌, Ok, Err, OnOk, OnErr, nat_lt};
 
 use crate::books::has;
-use crate::cited::{filling_stands, masks_stand};
 use readings::{Lent, MAX_BOOKS, Refusal, Rows};
 
 // The set of a row of n books: the row itself where book 0 reads 0, else its complement among the n.
+#[tactic(auto, using(crate::proofs::Masks::kept, crate::proofs::Masks::turned))]
 pub fn set_of(row: u64, n: u8) -> u64
     ensures { Members result (otherwise n row) }
 {
-    masks_stand();
     let known = first_books(n);
     if has(row, 0) {
         !row & known
@@ -24,10 +23,10 @@ pub fn set_of(row: u64, n: u8) -> u64
 }
 
 // The first n books, or all 64.
+#[tactic(auto, using(crate::proofs::Masks::first, crate::proofs::Masks::first_some, crate::proofs::Masks::first_all))]
 fn first_books(n: u8) -> u64
     ensures { Members result (λ i. nat_lt i n) }
 {
-    masks_stand();
     if n < MAX_BOOKS {
         (1 << n) - 1
     } else {
@@ -36,25 +35,27 @@ fn first_books(n: u8) -> u64
 }
 
 // The set of the place p; it is empty past the last place.
+#[tactic(auto, using(crate::proofs::Tables::place_set))]
 pub fn set_at(rows: Rows, p: u16) -> u64
     ensures { Members result (other_at (table_in rows.entry) p) }
 {
-    filling_stands();
     set_of(rows.row(p), rows.books())
 }
 
 // Writes the set of each place into the front of lent memory.
+#[tactic(auto, using(crate::proofs::Tables::filling))]
 pub fn fill(rows: Rows, sets: &mut [u64]) -> Result<(), Refusal>
     ensures value { result ≡ (if nat_lt (length sets.old) rows.entry.sizes.places then Err (Room Sets) else Ok tt) }
-    ensures memory { MatchResult result (λ _. InFront (table_in rows.entry) rows.entry.sizes.places sets.old sets.new) (λ _. sets.new ≡ sets.old) }
+    ensures written { OnOk result (InFront (table_in rows.entry) rows.entry.sizes.places sets.old sets.new) }
+    ensures kept { OnErr result (sets.new ≡ sets.old) }
     ensures ready { OnOk result (SetsOf (table_in rows.entry) rows.entry.sizes.places (take rows.entry.sizes.places sets.new)) }
 {
-    if sets.len() < rows.places() as usize {
+    if sets.len() < usize::from(rows.places()) {
         return Err(Refusal::Room(Lent::Sets));
     }
-    filling_stands();
+    // Numbered as `set_at` takes it: `enumerate` would count in `usize`, to be cast down.
     for p in 0..rows.places() {
-        sets[p as usize] = set_at(rows, p);
+        sets[usize::from(p)] = set_at(rows, p);
     }
     Ok(())
 }

@@ -3,7 +3,7 @@ use crate::{
     are_apart, are_equal, fill, has, is_among, set_at, set_of, single, size, smallest,
     smallest_only, smallest_shared, union,
 };
-use readings::{Refusal, Rows, read_rows, read_sizes};
+use readings::{Refusal, read};
 
 const ALL: u64 = u64::MAX;
 
@@ -29,8 +29,7 @@ const ROWS: [(u64, u8, u64); 14] = [
 
 #[test]
 fn takes_the_set_of_a_row(rt: HostRuntime) {
-    for k in 0..14 {
-        let (row, n, set) = ROWS[k];
+    for (row, n, set) in ROWS {
         assert_eq!(rt; set_of(row, n), set);
     }
 }
@@ -50,8 +49,7 @@ const BOOKS: [(u64, u8, bool, u8, u64); 9] = [
 
 #[test]
 fn knows_its_books(rt: HostRuntime) {
-    for k in 0..9 {
-        let (set, book, is_in, count, more) = BOOKS[k];
+    for (set, book, is_in, count, more) in BOOKS {
         assert_eq!(rt; has(set, book), is_in);
         assert_eq!(rt; size(set), count);
         assert_eq!(rt; union(set, single(book)), more);
@@ -71,32 +69,30 @@ const PAIRS: [(u64, u64, bool, bool, bool); 7] = [
 
 #[test]
 fn compares(rt: HostRuntime) {
-    for k in 0..7 {
-        let (a, b, among, apart, equal) = PAIRS[k];
+    for (a, b, among, apart, equal) in PAIRS {
         assert_eq!(rt; is_among(a, b), among);
         assert_eq!(rt; are_apart(a, b), apart);
         assert_eq!(rt; are_equal(a, b), equal);
     }
 }
 
-// Two sets, and the smallest book of the first, of both, of the first alone; 64 for none.
-const FIRSTS: [(u64, u64, u8, u8, u8); 7] = [
-    (0, ALL, 64, 64, 64),
-    (1, 2, 0, 64, 0),
-    (ALL, 0, 0, 64, 0),
-    (0b0110, 0b1100, 1, 2, 1),
-    (0b0110, 0b0010, 1, 1, 2),
-    (LAST, LAST, 63, 63, 64),
-    (ALL, ALL - LAST, 0, 0, 63),
+// Two sets, and the smallest book of the first, of both, of the first alone, if there is one.
+const FIRSTS: [(u64, u64, Option<u8>, Option<u8>, Option<u8>); 7] = [
+    (0, ALL, None, None, None),
+    (1, 2, Some(0), None, Some(0)),
+    (ALL, 0, Some(0), None, Some(0)),
+    (0b0110, 0b1100, Some(1), Some(2), Some(1)),
+    (0b0110, 0b0010, Some(1), Some(1), Some(2)),
+    (LAST, LAST, Some(63), Some(63), None),
+    (ALL, ALL - LAST, Some(0), Some(0), Some(63)),
 ];
 
 #[test]
 fn finds_the_smallest(rt: HostRuntime) {
-    for k in 0..7 {
-        let (a, b, first, shared, only) = FIRSTS[k];
-        assert_eq!(rt; smallest(a).unwrap_or(64), first);
-        assert_eq!(rt; smallest_shared(a, b).unwrap_or(64), shared);
-        assert_eq!(rt; smallest_only(a, b).unwrap_or(64), only);
+    for (a, b, first, shared, only) in FIRSTS {
+        assert_eq!(rt; smallest(a), first);
+        assert_eq!(rt; smallest_shared(a, b), shared);
+        assert_eq!(rt; smallest_only(a, b), only);
     }
 }
 
@@ -108,45 +104,35 @@ const NO_PLACES: &[u8; 3] = b"\x04\0\0";
 
 // The set of a place of the file.
 fn set_in_file(p: u16) -> Result<u64, Refusal> {
-    let sizes = read_sizes(FILE)?;
-    let bytes = read_rows(FILE, sizes)?;
-    Ok(set_at(Rows { sizes, bytes }, p))
+    let rows = read(FILE)?;
+    Ok(set_at(rows, p))
 }
 
-// Writes the sets of a file into memory.
-fn filled(file: &[u8], memory: &mut [u64]) -> Result<(), Refusal> {
-    let sizes = read_sizes(file)?;
-    let bytes = read_rows(file, sizes)?;
-    fill(Rows { sizes, bytes }, memory)?;
-    Ok(())
-}
-
-// The number and the place of the refusal, or zeros.
-fn said(done: Result<(), Refusal>) -> (u8, usize) {
-    match done {
-        Ok(()) => (0, 0),
-        Err(refusal) => (refusal.number(), refusal.place()),
-    }
+// Writes the sets of a file into memory, or gives the number and the place of the refusal.
+fn filled(file: &[u8], memory: &mut [u64]) -> Result<(), (u8, usize)> {
+    read(file)
+        .and_then(|rows| fill(rows, memory))
+        .map_err(|refusal| (refusal.number(), refusal.place()))
 }
 
 #[test]
 fn takes_the_set_of_a_place(rt: HostRuntime) {
-    assert_eq!(rt; set_in_file(0).unwrap_or(1), 0b0110);
-    assert_eq!(rt; set_in_file(1).unwrap_or(1), 0b1010);
-    assert_eq!(rt; set_in_file(2).unwrap_or(1), 0);
+    assert_eq!(rt; set_in_file(0), Ok(0b0110));
+    assert_eq!(rt; set_in_file(1), Ok(0b1010));
+    assert_eq!(rt; set_in_file(2), Ok(0));
 }
 
 #[test]
 fn fills_lent_memory(rt: HostRuntime) {
     let mut longer = [7; 3];
-    assert_eq!(rt; said(filled(FILE, &mut longer)), (0, 0));
+    assert_eq!(rt; filled(FILE, &mut longer), Ok(()));
     assert_eq!(rt; longer, [0b0110, 0b1010, 7]);
     let mut just = [7; 2];
-    assert_eq!(rt; said(filled(FILE, &mut just)), (0, 0));
+    assert_eq!(rt; filled(FILE, &mut just), Ok(()));
     assert_eq!(rt; just, [0b0110, 0b1010]);
     let mut short = [7; 1];
-    assert_eq!(rt; said(filled(FILE, &mut short)), (10, 0));
+    assert_eq!(rt; filled(FILE, &mut short), Err((10, 0)));
     assert_eq!(rt; short, [7]);
-    assert_eq!(rt; said(filled(NO_PLACES, &mut short)), (0, 0));
+    assert_eq!(rt; filled(NO_PLACES, &mut short), Ok(()));
     assert_eq!(rt; short, [7]);
 }
