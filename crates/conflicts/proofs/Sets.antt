@@ -49,3 +49,6 @@ crosses a b ha hb f g h = (some_shared a b ha h, some_only a b ha f, some_only b
 pub uncrossed_agree : (n a b : ℕ) → (Cross a b → ⊥) → Agree n a b
 unfolding Agree Cross
 uncrossed_agree n a b none i j k li lj lk x y z = none ((i, x), (j, y), (k, z))
+
+-- what masks say of two sets, and what that says of their conflicts
+pub ruleset crossing = (among_uncrossed, turned_uncrossed, apart_uncrossed, crosses, uncrossed_agree)

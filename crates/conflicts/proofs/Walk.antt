@@ -2,7 +2,9 @@
 use Rattle.std.proofs.Common.{◌≡◌, ℕ, ◌+◌, ◌<◌, ◌≤◌, Bool, true, false, List, [], ◌∷◌, length, get_or, Some, None, Option, sym, refl, subst, inl, inr, arith, below_more}
 use Rattle.std.proofs.lemmas.Bool.{both_ways, cases_lt}
 use Rattle.sets.specs.Sets.{only, shared}
-use Rattle.conflicts.specs.Cited.{Clear, Looked, SoFar, conflict_by, conflict_of, seen_of, seen_with}
+use Rattle.std.specs.Bool.{then_some}
+use Rattle.std.specs.Option.{option_or}
+use Rattle.conflicts.specs.Seen.{conflict_by, conflict_of, seen_with}
 use Rattle.conflicts.specs.Conflicts.{NoLater, numbers}
 use Rattle.conflicts.specs.Crossing.{Agree, Crossing, Finds}
 use Rattle.conflicts.specs.declared.search.Conflict.{Conflict as Named}
@@ -11,11 +13,16 @@ use Rattle.conflicts.proofs.Order.{no_larger}
 
 -- ---- the smallest so far
 
+-- of the numbers below i the smallest with P, or that none has it
+unfoldable pub SoFar : ℕ → (ℕ → Bool) → Option ℕ → Type 0
+SoFar i P None = (k : ℕ) → k < i → P k ≡ false
+SoFar i P (Some k) = (k < i) × (P k ≡ true) × ((j : ℕ) → j < k → P j ≡ false)
+
 so_far_none : (P : ℕ → Bool) → SoFar 0 P None
 unfolding SoFar
 so_far_none P k l = absurd (omega arith)
 
-so_far_more : (P : ℕ → Bool) (i : ℕ) (o : Option ℕ) (here : Bool) → here ≡ P i → SoFar i P o → SoFar (i + 1) P (seen_of o here i)
+so_far_more : (P : ℕ → Bool) (i : ℕ) (o : Option ℕ) (here : Bool) → here ≡ P i → SoFar i P o → SoFar (i + 1) P (option_or o (then_some here i))
 unfolding SoFar
 so_far_more P i (Some k) here e s = (omega (arith, s.0), s.1, s.2)
 so_far_more P i None true e s = (omega arith, sym e, s)
@@ -33,6 +40,10 @@ so_far_least P i x s k e = elim (cases_lt k x) [ inl l ↦ absurd (both_ways (P 
 
 -- ---- from book to book
 
+-- what was seen of two sets when the books below i were looked at
+unfoldable pub Looked : ℕ → ℕ → ℕ → Seen → Type 0
+Looked i a b s = SoFar i (shared a b) s.both × SoFar i (only a b) s.one × SoFar i (only b a) s.two
+
 pub no_book : (a b : ℕ) → Looked 0 a b (record { both = None; one = None; two = None })
 unfolding Looked
 no_book a b = (so_far_none (shared a b), so_far_none (only a b), so_far_none (only b a))
@@ -46,6 +57,10 @@ one_book a b i s (x, y, z) = (
 )
 
 -- ---- from pair to pair
+
+-- each conflict of the sets is one of the places p and q, or comes after these
+unfoldable pub Clear : List ℕ → ℕ → ℕ → ℕ → Type 0
+Clear sets n p q = (c : Named) → Crossing sets n c → NoLater (p ∷ q ∷ []) (c.p ∷ c.q ∷ [])
 
 pub no_pair : (sets : List ℕ) (n : ℕ) → Clear sets n 0 (0 + 1)
 unfolding Clear
@@ -127,3 +142,6 @@ pub one_found : (sets : List ℕ) (n p q i : ℕ) (s : Seen) (c : Named) → p <
     Looked (i + 1) (get_or sets p 0) (get_or sets q 0) s → conflict_by p q s ≡ Some c → Finds sets n (Some c)
 unfolding Looked
 one_found sets n p q i s c o t l clear (x, y, z) e = first_found sets n p q i s.both s.one s.two c o t l clear x y z e
+
+-- what the search does, step by step
+pub ruleset steps = (no_book, one_book, no_pair, one_pair, all_books, one_row, none_found, one_found)

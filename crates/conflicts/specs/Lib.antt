@@ -1,5 +1,5 @@
-pub mod Cited
 pub mod Conflicts
 pub mod Crossing
 pub mod Searches
+pub mod Seen
 pub mod Statements

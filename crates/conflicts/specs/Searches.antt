@@ -2,7 +2,7 @@
 --   table_with   the table of the file, or the first refusal of the list; whether the memory suffices is tested after the sizes and before the rows
 --   Told         the first conflict of the table, or that there is none, and the sets in front of the memory
 --   Searched     that, or the refusal, and the memory as it was
-use Rattle.std.specs.Prelude.{◌≡◌, ℕ, cond, List, length, Ok, Err, Option, Result, nat_lt}
+use Rattle.std.specs.Prelude.{◌≡◌, ℕ, if◌then◌else◌, List, length, Ok, Err, Option, Result, nat_lt}
 use Rattle.readings.specs.Files.{and_then, bytes_of, sizes_of}
 use Rattle.readings.specs.Tables.{Table, table_at}
 use Rattle.readings.specs.declared.refusals.Lent.TheVariants.{Sets}
@@ -14,7 +14,7 @@ use Rattle.conflicts.specs.declared.search.Conflict.{Conflict as Named}
 
 abbrev pub table_with : ℕ → List ℕ → Result Table Refusal
 table_with room file =
-    and_then (sizes_of file) (λ s. cond (nat_lt room s.places) (Err (Room Sets)) (and_then (bytes_of file s) (λ bytes. Ok (table_at s bytes))))
+    and_then (sizes_of file) (λ s. if nat_lt room s.places then Err (Room Sets) else and_then (bytes_of file s) (λ bytes. Ok (table_at s bytes)))
 
 -- what is said of a file that is taken
 pub record Told (file old new : List ℕ) (r : Option Named) : Type 0 where

@@ -2,16 +2,15 @@
 ghost use Rattle.std.specs.Prelude.{◌≡◌, ◌<◌, ◌≤◌, MatchOption};
 ghost use Rattle.conflicts.specs.Searches.{Searched};
 
-use crate::cited::files_stand;
 use crate::search::{Conflict, first_conflict};
 use readings::{Lent, Refusal, Rows, read_rows, read_sizes};
 use sets::fill;
 
 // The first conflict of the table in the file, or none. The sets of its places are written into the front of lent memory.
+#[tactic(auto, using(crate::proofs::Searched::told))]
 pub fn first_in_file(file: &[u8], sets: &mut [u64]) -> Result<Option<Conflict>, Refusal>
     ensures { Searched file.now sets.old sets.new result }
 {
-    files_stand();
     let sizes = read_sizes(file)?;
     let Some(m) = room_for(sizes.places, sets.len()) else {
         return Err(Refusal::Room(Lent::Sets));
@@ -25,9 +24,6 @@ pub fn first_in_file(file: &[u8], sets: &mut [u64]) -> Result<Option<Conflict>, 
 fn room_for(places: u16, room: usize) -> Option<usize>
     ensures { MatchOption result (room < places) (λ m. (m ≡ places) × (places ≤ room)) }
 {
-    let m = places as usize;
-    if room < m {
-        return None;
-    }
-    Some(m)
+    let m = usize::from(places);
+    (m <= room).then_some(m)
 }

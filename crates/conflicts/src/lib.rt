@@ -1,7 +1,6 @@
 // Conflicts: two places and three books that no tree explains together.
 #![tactic(auto)]
 
-mod cited;
 mod entry;
 mod laws;
 mod pairs;

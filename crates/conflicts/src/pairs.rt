@@ -1,15 +1,14 @@
 // Whether two sets of books conflict.
-ghost use Rattle.std.specs.Prelude.{◌≡◌, ℕ, false, Decides};
+ghost use Rattle.std.specs.Prelude.{◌≡◌, ◌↔◌, ℕ, false, IsTrue};
 ghost use Rattle.conflicts.specs.Crossing.{Agree, Cross};
 
-use crate::cited::pairs_stand;
 use sets::{are_apart, is_among};
 
 // Whether the sets cross: one book is in both, one in the first alone and one in the second alone. No book is looked for.
+#[tactic(auto, using(crate::proofs::Sets::crossing))]
 pub fn cross(a: u64, b: u64) -> bool
-    ensures value { Decides result (Cross a b) }
+    ensures value { IsTrue result ↔ Cross a b }
     ensures ready { result ≡ false → (n : ℕ) → Agree n a b }
 {
-    pairs_stand();
     !is_among(a, b) && !is_among(b, a) && !are_apart(a, b)
 }

@@ -1,12 +1,11 @@
 // The first conflict of a table's sets.
 ghost use Rattle.conflicts.specs.Crossing.{Finds};
 
-use crate::cited::steps_stand;
 use crate::pairs::cross;
 use crate::seen::UNSEEN;
 
 // A conflict: two places, the first before the second, and three books.
-#[derive(Clone, Copy)]
+#[derive(Clone, Copy, Debug, PartialEq, Eq)]
 pub struct Conflict {
     pub p: usize,
     pub q: usize,
@@ -17,20 +16,22 @@ pub struct Conflict {
 }
 
 // The conflict with the smallest p, then q, then books, of the sets of n books; a set for each place.
+#[tactic(auto, using(crate::proofs::Walk::steps))]
 pub fn first_conflict(sets: &[u64], n: u8) -> Option<Conflict>
     ensures { Finds sets.now n result }
 {
-    steps_stand();
     let mut found = None;
-    'search: for p in 0..sets.len() {
+    'search: for (p, &a) in sets.iter().enumerate() {
+        // Counted, as the check does not find which entries `enumerate().skip(p + 1)` gives.
         for q in p + 1..sets.len() {
+            let b = sets[q];
             // Masks settle nearly every pair, so that books are looked at only where there is a conflict to name.
-            if !cross(sets[p], sets[q]) {
+            if !cross(a, b) {
                 continue;
             }
             let mut seen = UNSEEN;
             for i in 0..n {
-                seen = seen.with(sets[p], sets[q], i);
+                seen = seen.with(a, b, i);
                 if let Some(conflict) = seen.conflict(p, q) {
                     found = Some(conflict);
                     break 'search;

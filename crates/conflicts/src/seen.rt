@@ -1,5 +1,5 @@
 // The books of two sets, looked at one by one.
-ghost use Rattle.conflicts.specs.Cited.{conflict_by, seen_of, seen_with};
+ghost use Rattle.conflicts.specs.Seen.{conflict_by, seen_with};
 ghost use Rattle.std.specs.Prelude.{◌≡◌};
 
 use crate::search::Conflict;
@@ -27,9 +27,9 @@ impl Seen {
         let in_a = has(a, i);
         let in_b = has(b, i);
         Seen {
-            both: first_seen(self.both, in_a && in_b, i),
-            one: first_seen(self.one, in_a && !in_b, i),
-            two: first_seen(self.two, in_b && !in_a, i),
+            both: self.both.or((in_a && in_b).then_some(i)),
+            one: self.one.or((in_a && !in_b).then_some(i)),
+            two: self.two.or((in_b && !in_a).then_some(i)),
         }
     }
 
@@ -46,11 +46,4 @@ impl Seen {
             two,
         })
     }
-}
-
-// The book that was seen before, else i if it is here.
-fn first_seen(before: Option<u8>, here: bool, i: u8) -> Option<u8>
-    ensures { result ≡ seen_of before here i }
-{
-    if here { before.or(Some(i)) } else { before }
 }

@@ -1,81 +1,64 @@
 // Worked examples: the tables of the documents, the edges of the search, and lent memory.
 use crate::{Conflict, cross, first_conflict, first_in_file};
-use readings::Refusal;
 
-// The places and the books of a conflict, or zeros.
-fn named(found: Option<Conflict>) -> (usize, usize, u8, u8, u8) {
-    match found {
-        Some(
-            Conflict {
-                p,
-                q,
-                both,
-                one,
-                two,
-            },
-        ) => (p, q, both, one, two),
-        None => (0, 0, 0, 0, 0),
-    }
+// The conflict of the places p and q by three books.
+fn found(p: usize, q: usize, both: u8, one: u8, two: u8) -> Option<Conflict> {
+    Some(Conflict {
+        p,
+        q,
+        both,
+        one,
+        two,
+    })
 }
-
-const NONE: (usize, usize, u8, u8, u8) = (0, 0, 0, 0, 0);
 
 #[test]
 fn finds_the_first(rt: HostRuntime) {
+    assert_eq!(rt; first_conflict(&[0b0110, 0b1100], 4), found(0, 1, 2, 1, 3));
+    assert_eq!(rt; first_conflict(&[0b0110, 0b1010], 4), found(0, 1, 1, 2, 3));
     assert_eq!(rt;
-        named(first_conflict(&[0b0110, 0b1100], 4)),
-        (0, 1, 2, 1, 3)
+        first_conflict(&[0b01110, 0b11100, 0b00100], 5),
+        found(0, 1, 2, 1, 4)
     );
     assert_eq!(rt;
-        named(first_conflict(&[0b0110, 0b1010], 4)),
-        (0, 1, 1, 2, 3)
+        first_conflict(&[0b1110, 0b0110, 0b1100], 4),
+        found(1, 2, 2, 1, 3)
     );
     assert_eq!(rt;
-        named(first_conflict(&[0b01110, 0b11100, 0b00100], 5)),
-        (0, 1, 2, 1, 4)
+        first_conflict(&[0b0110, 0b1000, 0b1100, 0b10100], 5),
+        found(0, 2, 2, 1, 3)
     );
     assert_eq!(rt;
-        named(first_conflict(&[0b1110, 0b0110, 0b1100], 4)),
-        (1, 2, 2, 1, 3)
-    );
-    assert_eq!(rt;
-        named(first_conflict(&[0b0110, 0b1000, 0b1100, 0b10100], 5)),
-        (0, 2, 2, 1, 3)
-    );
-    assert_eq!(rt;
-        named(first_conflict(&[3 << 62, 5 << 61], 64)),
-        (0, 1, 63, 62, 61)
+        first_conflict(&[3 << 62, 5 << 61], 64),
+        found(0, 1, 63, 62, 61)
     );
 }
 
 #[test]
 fn finds_none(rt: HostRuntime) {
-    assert_eq!(rt; named(first_conflict(&[0b0110, 0b0100, 0b1000], 4)), NONE);
-    assert_eq!(rt; named(first_conflict(&[], 3)), NONE);
-    assert_eq!(rt; named(first_conflict(&[0], 3)), NONE);
+    assert_eq!(rt; first_conflict(&[0b0110, 0b0100, 0b1000], 4), None);
+    assert_eq!(rt; first_conflict(&[], 3), None);
+    assert_eq!(rt; first_conflict(&[0], 3), None);
     assert_eq!(rt;
-        named(first_conflict(&[0b11110, 0b00110, 0b11000, 0b00110], 5)),
-        NONE
+        first_conflict(&[0b11110, 0b00110, 0b11000, 0b00110], 5),
+        None
     );
     assert_eq!(rt;
-        named(first_conflict(&[0b10, 0b100, 0b1000, 0b110000, 0b100000], 6)),
-        NONE
+        first_conflict(&[0b10, 0b100, 0b1000, 0b110000, 0b100000], 6),
+        None
     );
 }
 
 // Books from n on do not count; book 0 does, where a set holds it.
 #[test]
 fn keeps_to_the_books(rt: HostRuntime) {
-    assert_eq!(rt; named(first_conflict(&[0b0110, 0b1100], 3)), NONE);
-    assert_eq!(rt; named(first_conflict(&[0b0110, 0b1100], 0)), NONE);
+    assert_eq!(rt; first_conflict(&[0b0110, 0b1100], 3), None);
+    assert_eq!(rt; first_conflict(&[0b0110, 0b1100], 0), None);
     assert_eq!(rt;
-        named(first_conflict(&[0b0110, 0b1100], 255)),
-        (0, 1, 2, 1, 3)
+        first_conflict(&[0b0110, 0b1100], 255),
+        found(0, 1, 2, 1, 3)
     );
-    assert_eq!(rt;
-        named(first_conflict(&[0b0011, 0b0110], 4)),
-        (0, 1, 1, 0, 2)
-    );
+    assert_eq!(rt; first_conflict(&[0b0011, 0b0110], 4), found(0, 1, 1, 0, 2));
 }
 
 #[test]
@@ -92,28 +75,19 @@ fn crosses(rt: HostRuntime) {
 // Four books and two places, at which books 1 and 2, and books 0 and 1, read 1.
 const FILE: &[u8; 19] = b"\x04\x02\0\x06\0\0\0\0\0\0\0\x03\0\0\0\0\0\0\0";
 
-// The number and the place of the refusal, or what was found.
-fn said(found: Result<Option<Conflict>, Refusal>) -> (usize, usize, u8, u8, u8) {
-    match found {
-        Ok(found) => named(found),
-        Err(refusal) => (refusal.number() as usize, refusal.place(), 0, 0, 0),
-    }
+// What is found in a file, or the number and the place of the refusal.
+fn said(file: &[u8], sets: &mut [u64]) -> Result<Option<Conflict>, (u8, usize)> {
+    first_in_file(file, sets).map_err(|refusal| (refusal.number(), refusal.place()))
 }
 
 #[test]
 fn searches_a_file(rt: HostRuntime) {
     let file = *FILE;
     let mut sets = [0b1010; 3];
-    assert_eq!(rt; said(first_in_file(&file, &mut sets)), (0, 1, 2, 1, 3));
+    assert_eq!(rt; said(&file, &mut sets), Ok(found(0, 1, 2, 1, 3)));
     assert_eq!(rt; sets, [0b0110, 0b1100, 0b1010]);
-    assert_eq!(rt;
-        said(first_in_file(&file[0..3], &mut sets)),
-        (3, 3, 0, 0, 0)
-    );
-    assert_eq!(rt;
-        said(first_in_file(&file[0..2], &mut sets)),
-        (2, 1, 0, 0, 0)
-    );
+    assert_eq!(rt; said(&file[0..3], &mut sets), Err((3, 3)));
+    assert_eq!(rt; said(&file[0..2], &mut sets), Err((2, 1)));
     assert_eq!(rt; sets, [0b0110, 0b1100, 0b1010]);
 }
 
@@ -123,12 +97,11 @@ const ONE_PLACE: &[u8; 11] = b"\x04\x01\0\x06\0\0\0\0\0\0\0";
 // What lies in memory after the sets does not count, and nothing has to.
 #[test]
 fn keeps_to_the_places(rt: HostRuntime) {
-    let file = *ONE_PLACE;
     let mut longer = [0b1100; 2];
-    assert_eq!(rt; said(first_in_file(&file, &mut longer)), NONE);
+    assert_eq!(rt; said(ONE_PLACE, &mut longer), Ok(None));
     assert_eq!(rt; longer, [0b0110, 0b1100]);
     let mut just = [7; 1];
-    assert_eq!(rt; said(first_in_file(&file, &mut just)), NONE);
+    assert_eq!(rt; said(ONE_PLACE, &mut just), Ok(None));
     assert_eq!(rt; just, [0b0110]);
 }
 
@@ -137,14 +110,8 @@ fn keeps_to_the_places(rt: HostRuntime) {
 fn asks_for_room(rt: HostRuntime) {
     let file = *FILE;
     let mut sets = [7; 1];
-    assert_eq!(rt; said(first_in_file(&file, &mut sets)), (10, 0, 0, 0, 0));
-    assert_eq!(rt;
-        said(first_in_file(&file[0..3], &mut sets)),
-        (10, 0, 0, 0, 0)
-    );
-    assert_eq!(rt;
-        said(first_in_file(&file[0..1], &mut sets)),
-        (2, 1, 0, 0, 0)
-    );
+    assert_eq!(rt; said(&file, &mut sets), Err((10, 0)));
+    assert_eq!(rt; said(&file[0..3], &mut sets), Err((10, 0)));
+    assert_eq!(rt; said(&file[0..1], &mut sets), Err((2, 1)));
     assert_eq!(rt; sets, [7]);
 }

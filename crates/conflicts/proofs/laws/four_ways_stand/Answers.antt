@@ -1,7 +1,10 @@
--- What a conflict is, in other words, and what is none.
-use Rattle.conflicts.proofs.Rows.{four_ways, turned_agree}
-use Rattle.conflicts.proofs.Tables.{alike_agree, either_first}
+-- The clauses that say that there is a conflict, which the check does not name by itself.
+use Rattle.conflicts.proofs.Rows.{four_ways}
+use Rattle.conflicts.proofs.Tables.{either_first}
 use Rattle.conflicts.proofs.laws.four_ways_stand.Goals as goal
 
-pub returns : goal.returns
-returns c = record { ways = four_ways; either = either_first; alike = alike_agree; turned = turned_agree }
+pub returns-clause-ways : goal.returns-clause-ways
+returns-clause-ways c = four_ways
+
+pub returns-clause-either : goal.returns-clause-either
+returns-clause-either c = either_first

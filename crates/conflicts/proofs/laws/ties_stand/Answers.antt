@@ -1,7 +1,9 @@
--- The sets of a table conflict as the table does.
-use Rattle.conflicts.proofs.Searched.{room_for_all}
-use Rattle.conflicts.proofs.Tables.{crossing_places, same_answer, tied}
+-- The clauses that say that there is a conflict, which the check does not name by itself.
+use Rattle.conflicts.proofs.Tables.{crossing_places, tied}
 use Rattle.conflicts.proofs.laws.ties_stand.Goals as goal
 
-pub returns : goal.returns
-returns c = record { conflicts = tied; answers = same_answer; places = crossing_places; room = room_for_all }
+pub returns-clause-conflicts : goal.returns-clause-conflicts
+returns-clause-conflicts c = tied
+
+pub returns-clause-places : goal.returns-clause-places
+returns-clause-places c = crossing_places
