@@ -51,4 +51,4 @@ unfolding Agree Cross
 uncrossed_agree n a b none i j k li lj lk x y z = none ((i, x), (j, y), (k, z))
 
 -- what masks say of two sets, and what that says of their conflicts
-pub ruleset crossing = (among_uncrossed, turned_uncrossed, apart_uncrossed, crosses, uncrossed_agree)
+pub ruleset pairs = (among_uncrossed, turned_uncrossed, apart_uncrossed, crosses, uncrossed_agree)

@@ -1,7 +1,7 @@
 -- The search, from book to book and from pair to pair.
 use Rattle.std.proofs.Common.{◌≡◌, ℕ, ◌+◌, ◌<◌, ◌≤◌, Bool, true, false, List, [], ◌∷◌, length, get_or, Some, None, Option, sym, refl, subst, inl, inr, arith, below_more}
 use Rattle.std.proofs.lemmas.Bool.{both_ways, cases_lt}
-use Rattle.sets.specs.Sets.{only, shared}
+use Rattle.sets.specs.Sets.{SmallestBelow, only, shared}
 use Rattle.std.specs.Bool.{then_some}
 use Rattle.std.specs.Option.{option_or}
 use Rattle.conflicts.specs.Seen.{conflict_by, conflict_of, seen_with}
@@ -13,40 +13,35 @@ use Rattle.conflicts.proofs.Order.{no_larger}
 
 -- ---- the smallest so far
 
--- of the numbers below i the smallest with P, or that none has it
-unfoldable pub SoFar : ℕ → (ℕ → Bool) → Option ℕ → Type 0
-SoFar i P None = (k : ℕ) → k < i → P k ≡ false
-SoFar i P (Some k) = (k < i) × (P k ≡ true) × ((j : ℕ) → j < k → P j ≡ false)
+so_far_none : (P : ℕ → Bool) (o : Option ℕ) → o ≡ None → SmallestBelow 0 P o
+so_far_none P None e = λ k l. absurd (omega arith)
+so_far_none P (Some k) e = let no_one : ◌≡◌ {A = ℕ} 0 1 = cc in absurd (omega arith)
 
-so_far_none : (P : ℕ → Bool) → SoFar 0 P None
-unfolding SoFar
-so_far_none P k l = absurd (omega arith)
-
-so_far_more : (P : ℕ → Bool) (i : ℕ) (o : Option ℕ) (here : Bool) → here ≡ P i → SoFar i P o → SoFar (i + 1) P (option_or o (then_some here i))
-unfolding SoFar
+so_far_more : (P : ℕ → Bool) (i : ℕ) (o : Option ℕ) (here : Bool) → here ≡ P i → SmallestBelow i P o → SmallestBelow (i + 1) P (option_or o (then_some here i))
 so_far_more P i (Some k) here e s = (omega (arith, s.0), s.1, s.2)
 so_far_more P i None true e s = (omega arith, sym e, s)
 so_far_more P i None false e s = below_more (λ k. P k ≡ false) i s (sym e)
 
 -- none below n has P, where none was seen
-so_far_absent : (P : ℕ → Bool) (i n : ℕ) → n ≤ i → SoFar i P None → (k : ℕ) → k < n → P k ≡ true → ⊥
-unfolding SoFar
+so_far_absent : (P : ℕ → Bool) (i n : ℕ) → n ≤ i → SmallestBelow i P None → (k : ℕ) → k < n → P k ≡ true → ⊥
 so_far_absent P i n h s k l e = both_ways (P k) (s k (omega arith)) e
 
 -- what was seen is no larger than any other
-so_far_least : (P : ℕ → Bool) (i x : ℕ) → SoFar i P (Some x) → (k : ℕ) → P k ≡ true → x ≤ k
-unfolding SoFar
+so_far_least : (P : ℕ → Bool) (i x : ℕ) → SmallestBelow i P (Some x) → (k : ℕ) → P k ≡ true → x ≤ k
 so_far_least P i x s k e = elim (cases_lt k x) [ inl l ↦ absurd (both_ways (P k) (s.2 k l) e) | inr l ↦ l ]
 
 -- ---- from book to book
 
 -- what was seen of two sets when the books below i were looked at
 unfoldable pub Looked : ℕ → ℕ → ℕ → Seen → Type 0
-Looked i a b s = SoFar i (shared a b) s.both × SoFar i (only a b) s.one × SoFar i (only b a) s.two
+Looked i a b s = SmallestBelow i (shared a b) s.both × SmallestBelow i (only a b) s.one × SmallestBelow i (only b a) s.two
 
-pub no_book : (a b : ℕ) → Looked 0 a b (record { both = None; one = None; two = None })
+pub no_book : (a b : ℕ) (s : Seen) → s.both ≡ None → s.one ≡ None → s.two ≡ None → Looked 0 a b s
 unfolding Looked
-no_book a b = (so_far_none (shared a b), so_far_none (only a b), so_far_none (only b a))
+no_book a b s x y z = (so_far_none (shared a b) s.both x, so_far_none (only a b) s.one y, so_far_none (only b a) s.two z)
+
+pub none_seen : (p q : ℕ) (s : Seen) → s.both ≡ None → conflict_by p q s ≡ None
+none_seen p q s e = rw e refl
 
 pub one_book : (a b i : ℕ) (s : Seen) → Looked i a b s → Looked (i + 1) a b (seen_with s a b i)
 unfolding Looked
@@ -77,7 +72,7 @@ one_pair sets n p q agree clear c x =
     ]
 
 -- a book of some kind was not seen
-agree_unseen : (n i a b p q : ℕ) (x y z : Option ℕ) → SoFar i (shared a b) x → SoFar i (only a b) y → SoFar i (only b a) z → conflict_of p q x y z ≡ None → n ≤ i → Agree n a b
+agree_unseen : (n i a b p q : ℕ) (x y z : Option ℕ) → SmallestBelow i (shared a b) x → SmallestBelow i (only a b) y → SmallestBelow i (only b a) z → conflict_of p q x y z ≡ None → n ≤ i → Agree n a b
 unfolding Agree
 agree_unseen n i a b p q None y z sx sy sz e h j k l lj lk ll u v w = so_far_absent (shared a b) i n h sx j lj u
 agree_unseen n i a b p q (Some x) None z sx sy sz e h j k l lj lk ll u v w = so_far_absent (only a b) i n h sy k lk v
@@ -109,9 +104,9 @@ none_found sets n p q h clear c x =
     elim (clear c x) [ inl l ↦ omega arith | inr (e, rest) ↦ omega arith ]
 
 first_found : (sets : List ℕ) (n p q i : ℕ) (x y z : Option ℕ) (c : Named) → p < q → q < length sets → i < n → Clear sets n p q →
-    SoFar (i + 1) (shared (get_or sets p 0) (get_or sets q 0)) x → SoFar (i + 1) (only (get_or sets p 0) (get_or sets q 0)) y → SoFar (i + 1) (only (get_or sets q 0) (get_or sets p 0)) z →
+    SmallestBelow (i + 1) (shared (get_or sets p 0) (get_or sets q 0)) x → SmallestBelow (i + 1) (only (get_or sets p 0) (get_or sets q 0)) y → SmallestBelow (i + 1) (only (get_or sets q 0) (get_or sets p 0)) z →
     conflict_of p q x y z ≡ Some c → Finds sets n (Some c)
-unfolding Clear Finds SoFar
+unfolding Clear Finds
 first_found sets n p q i None y z c o t l clear sx sy sz e = let no_one : ◌≡◌ {A = ℕ} 0 1 = cc in absurd (omega arith)
 first_found sets n p q i (Some x) None z c o t l clear sx sy sz e = let no_one : ◌≡◌ {A = ℕ} 0 1 = cc in absurd (omega arith)
 first_found sets n p q i (Some x) (Some y) None c o t l clear sx sy sz e = let no_one : ◌≡◌ {A = ℕ} 0 1 = cc in absurd (omega arith)
@@ -144,4 +139,4 @@ unfolding Looked
 one_found sets n p q i s c o t l clear (x, y, z) e = first_found sets n p q i s.both s.one s.two c o t l clear x y z e
 
 -- what the search does, step by step
-pub ruleset steps = (no_book, one_book, no_pair, one_pair, all_books, one_row, none_found, one_found)
+pub ruleset steps = (no_book, none_seen, one_book, no_pair, one_pair, all_books, one_row, none_found, one_found)

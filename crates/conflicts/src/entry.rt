@@ -11,6 +11,7 @@ use sets::fill;
 pub fn first_in_file(file: &[u8], sets: &mut [u64]) -> Result<Option<Conflict>, Refusal>
     ensures { Searched file.now sets.old sets.new result }
 {
+    // In two steps, and not by `read`, since want of room is told of before the rows are looked at.
     let sizes = read_sizes(file)?;
     let Some(m) = room_for(sizes.places, sets.len()) else {
         return Err(Refusal::Room(Lent::Sets));

@@ -2,7 +2,7 @@
 ghost use Rattle.conflicts.specs.Crossing.{Finds};
 
 use crate::pairs::cross;
-use crate::seen::UNSEEN;
+use crate::seen::Seen;
 
 // A conflict: two places, the first before the second, and three books.
 #[derive(Clone, Copy, Debug, PartialEq, Eq)]
@@ -29,7 +29,7 @@ pub fn first_conflict(sets: &[u64], n: u8) -> Option<Conflict>
             if !cross(a, b) {
                 continue;
             }
-            let mut seen = UNSEEN;
+            let mut seen = Seen::default();
             for i in 0..n {
                 seen = seen.with(a, b, i);
                 if let Some(conflict) = seen.conflict(p, q) {

@@ -6,18 +6,12 @@ use crate::search::Conflict;
 use sets::has;
 
 // The smallest book seen so far in both sets, in the first alone, in the second alone.
-#[derive(Clone, Copy)]
+#[derive(Clone, Copy, Debug, Default)]
 pub(crate) struct Seen {
     pub(crate) both: Option<u8>,
     pub(crate) one: Option<u8>,
     pub(crate) two: Option<u8>,
 }
-
-pub(crate) const UNSEEN: Seen = Seen {
-    both: None,
-    one: None,
-    two: None,
-};
 
 impl Seen {
     // With the book i of the sets a and b looked at too.

@@ -1,7 +1,8 @@
 -- Bits of numbers, and of the numbers that bytes write.
 use Rattle.std.proofs.Common.{◌≡◌, ℕ, zero, suc, ◌+◌, ◌*◌, ◌/◌, ◌%◌, ◌^◌, ◌<◌, ◌≤◌, false, eqb, List, [], ◌∷◌, length, get_or, take, drop, sym, ap, ◌∙◌, subst, mod-lt, arith}
-use native.Mathlib.Nat.{div-eq_of_lt, pow-le-pow_right}
+use native.Mathlib.Nat.{div-eq_of_lt}
 use Rattle.std.specs.Int.{bit_at}
+use Rattle.std.proofs.Math.Pow.{pow_mono}
 use Rattle.std.proofs.lemmas.Nat.{pow_pos, shr-shr, shr_split}
 use Rattle.std.proofs.lemmas.Nat.Bits.{bit_at_above, bit_at_cat_low, bit_at_lowest, bit_at-lt, bit_at-suc, bit_at-zero, same_from_bits, same_from_bits_below}
 use Rattle.std.proofs.lemmas.List.{get_or-drop}
@@ -27,12 +28,9 @@ little_eight (a ∷ b ∷ c ∷ d ∷ e ∷ f ∷ g ∷ h ∷ i ∷ more) l = ab
 
 -- ---- shifts
 
-pub pow_mono : (i j : ℕ) → i ≤ j → 2 ^ i ≤ 2 ^ j
-pow_mono i j h = pow-le-pow_right (omega arith) h
-
 -- nothing is left of a number of 64 bits above these
 pub shifted_out : (w n : ℕ) → w < 2 ^ 64 → 64 ≤ n → w / 2 ^ n ≡ 0
-shifted_out w n h l = let big = pow_mono 64 n l in div-eq_of_lt (omega (arith, big))
+shifted_out w n h l = let big = pow_mono l in div-eq_of_lt (omega (arith, big))
 
 pub shr_none : (w n : ℕ) → w / 2 ^ n ≡ 0 → w < 2 ^ n
 shr_none w n e =
@@ -40,7 +38,7 @@ shr_none w n e =
     let g = mod-lt w (pow_pos n) in
     omega arith
 
--- ---- single bits
+-- ---- single bits, of which the library speaks as numbers (`bit_at`)
 
 pub bit-zero : (w : ℕ) → bit w 0 ≡ eqb (w % 2) 1
 unfolding bit

@@ -4,13 +4,14 @@ use native.Mathlib.Nat.{div-eq_of_lt}
 use Rattle.std.specs.List.{range_with_len, flat_map}
 use Rattle.std.proofs.lemmas.List.{take_at, drop_at, take-append-drop, length-take-le, length-drop, nil_from_length}
 use Rattle.std.proofs.lemmas.List.FromFn.{fill_by_all, get_or-map-range_with_len, length-map-range_with_len}
+use Rattle.std.proofs.Math.Pow.{pow_mono}
 use Rattle.readings.specs.Bits.{Bytes, little}
 use Rattle.std.proofs.lemmas.Bool.{cond-true, cond-false, eq-eqb, ne_eqb, le-ltb, or_from, or_parts, eqb-false, ltb-false}
 use Rattle.readings.specs.declared.file.Sizes.{Sizes}
 use Rattle.readings.specs.Files.{and_then, books_in, bytes_of, unless_stranger, known, no_books, no_places, places_in, row_at, rows_in, sizes_of, stranger}
 use Rattle.readings.specs.Statements.{ReadsBack, OnlyWritten}
 use Rattle.readings.specs.Writing.{file_of, in_bytes}
-use Rattle.readings.proofs.Bits.{bytes_drop, bytes_take, pow_mono}
+use Rattle.readings.proofs.Bits.{bytes_drop, bytes_take}
 use Rattle.readings.proofs.Files.{length-rows_in, row_at-suc, row_at-zero, rows_known, taken}
 
 -- ---- numbers in bytes
@@ -110,7 +111,7 @@ reads_back c a =
     let few = a.few in
     let short = a.short in
     let long = length_joined c.rows in
-    let power = pow_mono c.books 64 few in
+    let power = pow_mono few in
     let same : rows_in body (length c.rows) ≡ c.rows = rows_joined c.rows (λ p l. let k = a.known p l in omega arith) in
     let m_is : length c.rows % 256 + 256 * (length c.rows / 256) ≡ length c.rows = omega arith in
     ap (λ r. and_then r (λ s. and_then (bytes_of (file_of c) s) (λ bytes. Ok (record { books = s.books; rows = rows_in bytes s.places }))))

@@ -26,6 +26,7 @@ pub struct Sizes {
     pub places: u16,
 }
 
+// By hand, as a derived text is not promised.
 impl fmt::Display for Sizes {
     ghost output = { λ sizes. Some (sizes_text sizes) };
 
@@ -104,21 +105,19 @@ fn rows_part(file: &[u8], places: u16) -> Option<&[u8]>
     (bytes.len() == ROW_BYTES * usize::from(places)).then_some(bytes)
 }
 
-// The first place at which a book reads 1 that is not there. Where there is none, `Rows` holds both bytes and sizes.
+// The first place at which a book reads 1 that is not there.
 fn first_stranger(bytes: &[u8], sizes: Sizes) -> Option<u16>
     requires { length bytes.now ≡ 8 * sizes.places }
     ensures { result ≡ find (λ p. not (known sizes.books (row_at bytes.now p))) (range_with_len 0 sizes.places) }
 {
-    (0..sizes.places).find(|&p| has_stranger(bytes, p, sizes.books))
+    (0..sizes.places).find(|&p| has_stranger(row_of(bytes, p), sizes.books))
 }
 
-// Whether a book reads 1 at the place p that is none of so many. No row has a bit past the 64th, and no shift goes that far.
+// Whether a book reads 1 in the row that is none of so many. No row has a bit past the 64th, and no shift goes that far.
 #[tactic(auto, using(crate::proofs::Bits::shifted_out))]
-fn has_stranger(bytes: &[u8], p: u16, books: u8) -> bool
-    requires { 8 * p + 8 ≤ length bytes.now }
-    ensures { result ≡ not (known books (row_at bytes.now p)) }
+fn has_stranger(row: u64, books: u8) -> bool
+    ensures { result ≡ not (known books row) }
 {
-    let row = row_of(bytes, p);
     books < MAX_BOOKS && row >> books != 0
 }
 
@@ -128,7 +127,7 @@ pub(crate) fn row_of(bytes: &[u8], p: u16) -> u64
     requires { 8 * p + 8 ≤ length bytes.now }
     ensures { result ≡ row_at bytes.now p }
 {
-    let (parts, _) = bytes.as_chunks();
+    let (parts, _) = bytes.as_chunks::<ROW_BYTES>();
     row(&parts[usize::from(p)])
 }
 

@@ -76,7 +76,7 @@ impl Refusal {
     }
 }
 
-// The line in which it is told of.
+// The line in which it is told of. By hand, as a derived text is not promised.
 impl fmt::Display for Refusal {
     ghost output = { λ refusal. Some (refusal_text refusal) };
 

@@ -5,12 +5,10 @@ use std::alloc::AllocError;
 // Four books and three places, whose rows have the books 1 and 2, then 2, then 3.
 const FIRST: &[u8; 27] = b"\x04\x03\0\x06\0\0\0\0\0\0\0\x04\0\0\0\0\0\0\0\x08\0\0\0\0\0\0\0";
 
-// The number of places, or the number and the place of the refusal.
-fn said(file: &[u8]) -> Result<u16, (u8, usize)> {
-    match read(file) {
-        Ok(rows) => Ok(rows.places()),
-        Err(refusal) => Err((refusal.number(), refusal.place())),
-    }
+// The number of places.
+fn places(file: &[u8]) -> Result<u16, Refusal> {
+    let rows = read(file)?;
+    Ok(rows.places())
 }
 
 // The sizes and the row of a place, through the view that spares the checks.
@@ -21,7 +19,7 @@ fn seen(file: &[u8], p: u16) -> Result<(u8, u16, u64), Refusal> {
 
 #[test]
 fn reads_the_first_table(rt: HostRuntime) {
-    assert_eq!(rt; said(FIRST), Ok(3));
+    assert_eq!(rt; places(FIRST), Ok(3));
     assert_eq!(rt; seen(FIRST, 0), Ok((4, 3, 6)));
     assert_eq!(rt; seen(FIRST, 2), Ok((4, 3, 8)));
     assert_eq!(rt; seen(FIRST, 3), Ok((4, 3, 0)));
@@ -29,20 +27,21 @@ fn reads_the_first_table(rt: HostRuntime) {
 
 #[test]
 fn refuses_sizes(rt: HostRuntime) {
-    assert_eq!(rt; said(&[]), Err((1, 0)));
-    assert_eq!(rt; said(&[0, 0, 0]), Err((1, 0)));
-    assert_eq!(rt; said(&[65, 1, 8]), Err((1, 0)));
-    assert_eq!(rt; said(&[64, 0]), Err((2, 1)));
-    assert_eq!(rt; said(&[64, 1, 8]), Err((2, 1)));
+    assert_eq!(rt; places(&[]), Err(Refusal::BookCount));
+    assert_eq!(rt; places(&[0, 0, 0]), Err(Refusal::BookCount));
+    assert_eq!(rt; places(&[65, 1, 8]), Err(Refusal::BookCount));
+    assert_eq!(rt; places(&[64, 0]), Err(Refusal::PlaceCount));
+    assert_eq!(rt; places(&[64, 1, 8]), Err(Refusal::PlaceCount));
 }
 
 #[test]
 fn refuses_rows(rt: HostRuntime) {
-    assert_eq!(rt; said(&[64, 0, 8]), Err((3, 3)));
+    assert_eq!(rt; places(&[64, 0, 8]), Err(Refusal::TableLength(3)));
+    assert_eq!(rt; places(&[64, 0, 0, 0]), Err(Refusal::TableLength(4)));
     let mut file = *FIRST;
-    assert_eq!(rt; said(&file[0..26]), Err((3, 26)));
+    assert_eq!(rt; places(&file[0..26]), Err(Refusal::TableLength(26)));
     file[11] = 16;
-    assert_eq!(rt; said(&file), Err((4, 1)));
+    assert_eq!(rt; places(&file), Err(Refusal::UnknownBook(1)));
 }
 
 // Each refusal with its number and its place, in the order of the list, with a place of its own where it has one.

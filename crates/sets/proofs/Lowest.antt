@@ -4,11 +4,12 @@ use lib.Bits.{bit_and}
 use lib.Count.{count_trailing_zeros}
 use Rattle.std.proofs.lemmas.Bool.{both_ways, cases_order}
 use Rattle.std.proofs.lemmas.Nat.Bits.{bit_at-trailing_zeros}
+use Rattle.std.specs.Int.{bit_not}
 use Rattle.readings.specs.Bits.{bit}
 use Rattle.readings.proofs.Bits.{bit_none}
 use Rattle.sets.specs.Sets.{Smallest, only, shared}
 use Rattle.sets.specs.Statements.{OneSmallest}
-use Rattle.sets.proofs.Masks.{bit-bit_and, bit_only, complement}
+use Rattle.sets.proofs.Masks.{bit-bit_and, bit_only}
 
 pub smallest_like : (P Q : ℕ → Bool) (r : Option ℕ) → ((i : ℕ) → i < 64 → P i ≡ Q i) → Smallest P r → Smallest Q r
 smallest_like P Q None same none = λ i l. sym (same i l) ∙ none i l
@@ -41,5 +42,5 @@ none_smallest s e i l = ap (λ (x : ℕ). bit x i) e ∙ bit_none i
 pub smallest_of_shared : (a b : ℕ) (r : Option ℕ) → Smallest (bit (bit_and a b)) r → Smallest (shared a b) r
 smallest_of_shared a b r = smallest_like _ _ r (λ i l. bit-bit_and a b i)
 
-pub smallest_of_only : (a b : ℕ) (r : Option ℕ) → b < 2 ^ 64 → Smallest (bit (bit_and a (complement b))) r → Smallest (only a b) r
+pub smallest_of_only : (a b : ℕ) (r : Option ℕ) → b < 2 ^ 64 → Smallest (bit (bit_and a (bit_not w64 b))) r → Smallest (only a b) r
 smallest_of_only a b r h = smallest_like _ _ r (λ i l. bit_only a b i h l)

@@ -1,7 +1,7 @@
 -- The bits of what masks make: of `&`, `|`, `!`, `<<`, and of the first n ones.
-use Rattle.std.proofs.Common.{◌≡◌, ℕ, zero, suc, ◌-◌, ◌*◌, ◌/◌, ◌%◌, ◌^◌, ◌<◌, ◌≤◌, Bool, true, false, min, max, not, ◌&&◌, ◌||◌, eqb, ltb, sym, refl, ap, ◌∙◌, ap₂, inl, inr, pow-suc, arith}
+use Rattle.std.proofs.Common.{◌≡◌, ℕ, zero, suc, ◌-◌, ◌*◌, ◌/◌, ◌%◌, ◌^◌, ◌<◌, ◌≤◌, Bool, true, false, min, max, not, ◌&&◌, ◌||◌, eqb, ltb, sym, refl, ap, ◌∙◌, ap₂, inl, inr, pow-suc, arith, w64}
 use lib.Bits.{bit_and, bit_or}
-use Rattle.std.specs.Int.{bit_at}
+use Rattle.std.specs.Int.{bit_at, bit_not}
 use Rattle.std.proofs.lemmas.Nat.{one_shl, pow_pos}
 use Rattle.std.proofs.lemmas.Nat.Bits.{bit_at_and, bit_at-lt, bit_at_ones, bit_at_ones_above, bit_at_or, bit_at-pow_other, bit_at-pow_same, shr_and_one}
 use Rattle.std.proofs.lemmas.Bool.{cases_eq, cases_lt, eq-eqb, lt-ltb, le-ltb, ne_eqb}
@@ -12,11 +12,7 @@ use Rattle.readings.specs.Tables.{differ}
 use Rattle.sets.specs.Sets.{Members, either, only, shared}
 use Rattle.sets.specs.Tables.{otherwise}
 
--- `!b`: all ones less b
-abbrev pub complement : ℕ → ℕ
-complement b = 2 ^ 64 - 1 - b
-
--- ---- `a & b`, `a | b`, `!b`
+-- ---- `a & b`, `a | b`, `!b`, of which the library speaks by `bit_at`, a number, and of `!b` at fixed widths
 
 pub bit-bit_and : (a b i : ℕ) → bit (bit_and a b) i ≡ shared a b i
 unfolding bit
@@ -33,25 +29,25 @@ bit-bit_or a b i = ap (λ (x : ℕ). eqb x 1) (bit_at_or a b i) ∙ digits (bit_
     digits u v h k = grind (arith, nat_tests)
 
 -- at w bits
-pub bit_not : (w b i : ℕ) → b < 2 ^ w → i < w → bit (2 ^ w - 1 - b) i ≡ not (bit b i)
-bit_not zero b i h l = absurd (omega arith)
-bit_not (suc w) b zero h l =
+pub bit-bit_not : (w b i : ℕ) → b < 2 ^ w → i < w → bit (2 ^ w - 1 - b) i ≡ not (bit b i)
+bit-bit_not zero b i h l = absurd (omega arith)
+bit-bit_not (suc w) b zero h l =
     let e = pow-suc 2 w in
     let odd : (2 ^ suc w - 1 - b) % 2 ≡ 1 - b % 2 = omega arith in
     bit-zero (2 ^ suc w - 1 - b) ∙ ap (λ (x : ℕ). eqb x 1) odd ∙ digit (b % 2) (omega arith) ∙ ap not (sym (bit-zero b))
   where
     digit : (u : ℕ) → u < 2 → eqb (1 - u) 1 ≡ not (eqb u 1)
     digit u h = grind (arith, nat_tests)
-bit_not (suc w) b (suc i) h l =
+bit-bit_not (suc w) b (suc i) h l =
     let e = pow-suc 2 w in
     let half : (2 ^ suc w - 1 - b) / 2 ≡ 2 ^ w - 1 - b / 2 = omega arith in
     bit-suc (2 ^ suc w - 1 - b) i
     ∙ ap (λ (x : ℕ). bit x i) half
-    ∙ bit_not w (b / 2) i (omega arith) (omega arith)
+    ∙ bit-bit_not w (b / 2) i (omega arith) (omega arith)
     ∙ ap not (sym (bit-suc b i))
 
-pub bit_only : (a b i : ℕ) → b < 2 ^ 64 → i < 64 → bit (bit_and a (complement b)) i ≡ only a b i
-bit_only a b i h l = bit-bit_and a (complement b) i ∙ ap (λ x. bit a i && x) (bit_not 64 b i h l)
+pub bit_only : (a b i : ℕ) → b < 2 ^ 64 → i < 64 → bit (bit_and a (bit_not w64 b)) i ≡ only a b i
+bit_only a b i h l = bit-bit_and a (bit_not w64 b) i ∙ ap (λ x. bit a i && x) (bit-bit_not 64 b i h l)
 
 -- ---- one bit, and the first n
 
@@ -112,9 +108,12 @@ pub kept : (n w m : ℕ) → bit w 0 ≡ false → Members m (λ i. ltb i n) →
 unfolding Members
 kept n w m e known i l = within n w m false e w i refl (known i l)
 
-pub turned : (n w m : ℕ) → w < 2 ^ 64 → bit w 0 ≡ true → Members m (λ i. ltb i n) → Members (bit_and (complement w) m) (otherwise n w)
+pub turned : (n w m : ℕ) → w < 2 ^ 64 → bit w 0 ≡ true → Members m (λ i. ltb i n) → Members (bit_and (bit_not w64 w) m) (otherwise n w)
 unfolding Members
-turned n w m h e known i l = within n w m true e (complement w) i (bit_not 64 w i h l) (known i l)
+turned n w m h e known i l = within n w m true e (bit_not w64 w) i (bit-bit_not 64 w i h l) (known i l)
 
 pub first_some : (n : ℕ) → n < 64 → 1 ≤ 1 * 2 ^ n % 2 ^ 64
 first_some n h = let e = one_shl n 64 h in let p = pow_pos n in omega arith
+
+-- the first n books as a mask
+pub ruleset first_ones = (first, first_some, first_all)

@@ -1,13 +1,14 @@
 -- Sets of books by their members: when they are equal, one among the other, apart, and how large they are.
-use Rattle.std.proofs.Common.{◌≡◌, ℕ, ◌^◌, ◌<◌, ◌≤◌, Bool, true, false, not, ◌&&◌, eqb, ltb, Decides, sym, refl, ap, ◌∙◌, inl, inr, arith}
+use Rattle.std.proofs.Common.{◌≡◌, ℕ, ◌^◌, ◌<◌, ◌≤◌, Bool, true, false, not, ◌&&◌, eqb, ltb, Decides, sym, refl, ap, ◌∙◌, inl, inr, arith, w64}
 use lib.Bits.{bit_and, and_le_l}
 use Rattle.std.proofs.lemmas.Bool.{both_ways, cases_eq, cases_lt, eq-eqb, eqb-true, false≢true, le-ltb, lt-ltb}
+use Rattle.std.specs.Int.{bit_not}
 use Rattle.readings.specs.Bits.{bit}
 use Rattle.readings.proofs.Bits.{bit_none, bits_above, bits_equal}
 use Rattle.sets.specs.Sets.{Among, Apart, Members, SameBooks, size_of}
 use Rattle.sets.specs.Statements.{AsLarge, Determined, Empty, Smaller}
 use Rattle.sets.proofs.Counts.{count_le, count_none, count_same}
-use Rattle.sets.proofs.Masks.{bit-bit_and, bit_only, complement}
+use Rattle.sets.proofs.Masks.{bit-bit_and, bit_only}
 
 -- ---- members
 
@@ -50,14 +51,14 @@ pub among_trans : (a b c : ℕ) → Among a b → Among b c → Among a c
 unfolding Among
 among_trans a b c f g i x = g i (f i x)
 
-pub among_none_only : (a b : ℕ) → a < 2 ^ 64 → b < 2 ^ 64 → Decides (eqb (bit_and a (complement b)) 0) (Among a b)
+pub among_none_only : (a b : ℕ) → a < 2 ^ 64 → b < 2 ^ 64 → Decides (eqb (bit_and a (bit_not w64 b)) 0) (Among a b)
 unfolding Among
 among_none_only a b ha hb = (
   λ e i x.
       let l = member_below 64 a i ha x in
       let none = sym (bit_only a b i hb l) ∙ ap (λ (m : ℕ). bit m i) (eqb-true _ _ e) ∙ bit_none i in
       holds (bit a i) (bit b i) none x,
-  λ f. eq-eqb _ _ (no_members _ (omega (arith, and_le_l a (complement b))) (λ i l. bit_only a b i hb l ∙ lacks (bit a i) (bit b i) (f i))),
+  λ f. eq-eqb _ _ (no_members _ (omega (arith, and_le_l a (bit_not w64 b))) (λ i l. bit_only a b i hb l ∙ lacks (bit a i) (bit b i) (f i))),
 )
   where
     holds : (x y : Bool) → (x && not y) ≡ false → x ≡ true → y ≡ true

@@ -1,6 +1,6 @@
 -- The sets of the places of a table, in lent memory.
-use Rattle.std.proofs.Common.{◌≡◌, ℕ, ◌+◌, ◌^◌, ◌<◌, ◌≤◌, Bool, true, false, cond, not, ◌&&◌, ltb, List, [], ◌∷◌, ◌++◌, length, get_or, take, drop, set, sym, refl, ap, ◌∙◌, ap₂, inl, inr, arith}
-use Rattle.std.proofs.lemmas.List.{drop-drop, drop-set-lt, ext_get_or, get_or_append_left, get_or_push, get_or-take, length_push, take-append-drop, take_more_set}
+use Rattle.std.proofs.Common.{◌≡◌, ℕ, ◌+◌, ◌^◌, ◌<◌, ◌≤◌, Bool, true, false, cond, not, ◌&&◌, ltb, List, [], ◌∷◌, ◌++◌, length, get_or, take, drop, set, sym, refl, ap, ◌∙◌, ap₂, subst, inl, inr, arith}
+use Rattle.std.proofs.lemmas.List.{drop-drop, drop-set-lt, drop_at, ext_get_or, get_or_append_left, get_or_push, get_or-take, length_push, length-take-le, take-append-drop, take_all, take_at, take_more_set}
 use Rattle.std.proofs.lemmas.Bool.{and_right, cases_lt, le-ltb}
 use Rattle.readings.specs.Bits.{bit}
 use Rattle.readings.specs.Files.{row_at}
@@ -10,7 +10,7 @@ use Rattle.readings.proofs.Files.{row_or_none}
 use Rattle.sets.specs.Sets.{Members}
 use Rattle.sets.specs.Statements.{OneFilling, RowSet, TurnedRound}
 use Rattle.sets.specs.Tables.{InFront, SetsOf, Words, other_at, otherwise}
-use Rattle.sets.proofs.Masks.{bit_not}
+use Rattle.sets.proofs.Masks.{bit-bit_not}
 use Rattle.sets.proofs.Sets.{below_reads, determined, members_like, none_past}
 
 -- ---- the set of a row
@@ -27,7 +27,7 @@ row_set n rows p s few h m =
 pub turned_round : TurnedRound
 turned_round n w i some h =
     elim (cases_lt i n) [
-      | inl l ↦ ap (λ x. ltb i n && x) (ap₂ differ (bit_not n w 0 h some) (bit_not n w i h l) ∙ both (bit w 0) (bit w i))
+      | inl l ↦ ap (λ x. ltb i n && x) (ap₂ differ (bit-bit_not n w 0 h some) (bit-bit_not n w i h l) ∙ both (bit w 0) (bit w i))
       | inr l ↦ rw (le-ltb i n l)
     ]
   where
@@ -79,6 +79,15 @@ one_more t p v old new l m front = (
   drop-set-lt (p + 1) new p v (omega arith) ∙ sym (drop-drop 1 p new) ∙ ap (drop 1) front.1 ∙ drop-drop 1 p old,
 )
 
+-- the part in front was filled, and what lay after it lies there still
+pub whole_front : (t : Table) (k m : ℕ) (old front : List ℕ) → length front ≡ length (take m old) → m ≤ length old → m ≡ k → InFront t k (take m old) front → InFront t k old (front ++ drop m old)
+unfolding InFront
+whole_front t k m old front h l g f =
+    let e : length front ≡ k = h ∙ length-take-le m old l ∙ g in (
+      subst (λ (xs : List ℕ). SetsOf t k xs) (take_all k front (omega arith) ∙ sym (take_at front (drop m old) k e)) f.0,
+      drop_at front (drop m old) k e ∙ ap (λ (q : ℕ). drop q old) g,
+    )
+
 pub in_front : (t : Table) (k : ℕ) (old new : List ℕ) → InFront t k old new → SetsOf t k (take k new)
 unfolding InFront
 in_front t k old new front = front.0
@@ -97,4 +106,4 @@ one_filling t k old x y wx wy fx fy =
     word z p l w = let e = get_or-take k z p 0 l in let h = w p in omega arith
 
 -- the filling of lent memory, step by step
-pub ruleset filling = (none_yet, one_more, in_front)
+pub ruleset filling = (none_yet, one_more)

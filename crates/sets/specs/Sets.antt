@@ -4,6 +4,7 @@
 --   Among, Apart           each book of one set is in the other; no book is in both
 --   SameBooks              each book is in both or in none
 --   count, size_of         how many numbers have a property; how many books a set has
+--   SmallestBelow          the smallest number below n with a property, or that there is none
 --   Smallest               the smallest book with a property, or that there is none
 use Rattle.std.specs.Prelude.{◌≡◌, ℕ, zero, suc, ◌+◌, ◌<◌, Bool, true, false, if◌then◌else◌, not, ◌&&◌, ◌||◌, Some, None, Option, ◌≢◌}
 use Rattle.readings.specs.Bits.{bit}
@@ -38,6 +39,10 @@ count (suc n) P = count n P + (if P n then 1 else 0)
 abbrev pub size_of : ℕ → ℕ
 size_of s = count 64 (bit s)
 
+-- of the numbers below n the smallest with P, or that none has it
+abbrev pub SmallestBelow : ℕ → (ℕ → Bool) → Option ℕ → Type 0
+SmallestBelow n P None = (i : ℕ) → i < n → P i ≡ false
+SmallestBelow n P (Some k) = (k < n) × (P k ≡ true) × ((i : ℕ) → i < k → P i ≡ false)
+
 abbrev pub Smallest : (ℕ → Bool) → Option ℕ → Type 0
-Smallest P None = (i : ℕ) → i < 64 → P i ≡ false
-Smallest P (Some k) = (k < 64) × (P k ≡ true) × ((i : ℕ) → i < k → P i ≡ false)
+Smallest = SmallestBelow 64

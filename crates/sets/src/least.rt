@@ -7,11 +7,8 @@ ghost use Rattle.sets.specs.Sets.{Smallest, only, shared};
 pub fn smallest(set: u64) -> Option<u8>
     ensures { Smallest (bit set) result }
 {
-    if set == 0 {
-        return None;
-    }
-    // Below 64, so that the cast loses nothing.
-    Some(set.trailing_zeros() as u8)
+    // At most 64, so that the cast loses nothing.
+    (set != 0).then_some(set.trailing_zeros() as u8)
 }
 
 // The smallest book in both sets.

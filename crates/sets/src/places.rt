@@ -23,7 +23,7 @@ pub fn set_of(row: u64, n: u8) -> u64
 }
 
 // The first n books, or all 64.
-#[tactic(auto, using(crate::proofs::Masks::first, crate::proofs::Masks::first_some, crate::proofs::Masks::first_all))]
+#[tactic(auto, using(crate::proofs::Masks::first_ones))]
 fn first_books(n: u8) -> u64
     ensures { Members result (λ i. nat_lt i n) }
 {
@@ -43,19 +43,29 @@ pub fn set_at(rows: Rows, p: u16) -> u64
 }
 
 // Writes the set of each place into the front of lent memory.
-#[tactic(auto, using(crate::proofs::Tables::filling))]
+#[tactic(auto, using(crate::proofs::Tables::whole_front, crate::proofs::Tables::in_front))]
 pub fn fill(rows: Rows, sets: &mut [u64]) -> Result<(), Refusal>
     ensures value { result ≡ (if nat_lt (length sets.old) rows.entry.sizes.places then Err (Room Sets) else Ok tt) }
     ensures written { OnOk result (InFront (table_in rows.entry) rows.entry.sizes.places sets.old sets.new) }
     ensures kept { OnErr result (sets.new ≡ sets.old) }
     ensures ready { OnOk result (SetsOf (table_in rows.entry) rows.entry.sizes.places (take rows.entry.sizes.places sets.new)) }
 {
-    if sets.len() < usize::from(rows.places()) {
+    let m = usize::from(rows.places());
+    if sets.len() < m {
         return Err(Refusal::Room(Lent::Sets));
     }
-    // Numbered as `set_at` takes it: `enumerate` would count in `usize`, to be cast down.
-    for p in 0..rows.places() {
-        sets[usize::from(p)] = set_at(rows, p);
-    }
+    fill_all(rows, &mut sets[..m]);
     Ok(())
+}
+
+// Writes the set of each place into memory for just so many.
+#[tactic(auto, using(crate::proofs::Tables::filling))]
+fn fill_all(rows: Rows, sets: &mut [u64])
+    requires { length sets.old ≡ rows.sizes.places }
+    ensures { InFront (table_in rows.entry) rows.entry.sizes.places sets.old sets.new }
+{
+    for (p, set) in sets.iter_mut().enumerate() {
+        // Below 2,048, so that the cast loses nothing.
+        *set = set_at(rows, p as u16);
+    }
 }

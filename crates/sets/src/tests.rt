@@ -3,7 +3,7 @@ use crate::{
     are_apart, are_equal, fill, has, is_among, set_at, set_of, single, size, smallest,
     smallest_only, smallest_shared, union,
 };
-use readings::{Refusal, read};
+use readings::{Lent, Refusal, read};
 
 const ALL: u64 = u64::MAX;
 
@@ -108,11 +108,10 @@ fn set_in_file(p: u16) -> Result<u64, Refusal> {
     Ok(set_at(rows, p))
 }
 
-// Writes the sets of a file into memory, or gives the number and the place of the refusal.
-fn filled(file: &[u8], memory: &mut [u64]) -> Result<(), (u8, usize)> {
-    read(file)
-        .and_then(|rows| fill(rows, memory))
-        .map_err(|refusal| (refusal.number(), refusal.place()))
+// Writes the sets of a file into memory.
+fn filled(file: &[u8], memory: &mut [u64]) -> Result<(), Refusal> {
+    let rows = read(file)?;
+    fill(rows, memory)
 }
 
 #[test]
@@ -131,7 +130,7 @@ fn fills_lent_memory(rt: HostRuntime) {
     assert_eq!(rt; filled(FILE, &mut just), Ok(()));
     assert_eq!(rt; just, [0b0110, 0b1010]);
     let mut short = [7; 1];
-    assert_eq!(rt; filled(FILE, &mut short), Err((10, 0)));
+    assert_eq!(rt; filled(FILE, &mut short), Err(Refusal::Room(Lent::Sets)));
     assert_eq!(rt; short, [7]);
     assert_eq!(rt; filled(NO_PLACES, &mut short), Ok(()));
     assert_eq!(rt; short, [7]);

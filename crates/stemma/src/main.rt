@@ -3,9 +3,11 @@
 
 use std::alloc::AllocGlobal;
 use std::env::{self, Env};
+use std::fmt::Display;
 use std::fs::{self, Files};
+use std::io;
 use std::process::ExitCode;
-use std::{fmt, io};
+use thiserror::Error;
 
 const HELP: &str = "usage: stemma TABLE
 
@@ -22,8 +24,7 @@ file can't be read or the arguments are wrong: then a line on standard error
 says so, and nothing is printed.
 
   --help      print this text
-  --version   print the version
-";
+  --version   print the version";
 
 const VERSION: &str = "stemma 0.1.0";
 
@@ -36,37 +37,20 @@ enum Request {
 }
 
 // Why there is no answer.
-#[derive(Debug, Drop)]
+#[derive(Debug, Drop, Error)]
 enum Failure {
+    #[error("cannot read the arguments, which have to be UTF-8: {0}")]
     Arguments(io::Error),
+    #[error("no file is named (try stemma --help)")]
     NoFile,
+    #[error("unknown option {0:?} (try stemma --help)")]
     UnknownOption(String),
+    #[error("one file is read, not also {0:?} (try stemma --help)")]
     SecondFile(String),
-    // The file that was named.
-    Reading(String, io::Error),
+    #[error("cannot read {path:?}: {error}")]
+    Reading { path: String, error: io::Error },
+    #[error("cannot write the answer: {0}")]
     Writing(io::Error),
-}
-
-impl fmt::Display for Failure {
-    fn fmt<W: fmt::Write>(&self, f: &mut fmt::Formatter<W>) -> fmt::Result {
-        match self {
-            Failure::Arguments(error) => {
-                write!(
-                    f,
-                    "cannot read the arguments, which have to be UTF-8: {error}"
-                )
-            }
-            Failure::NoFile => f.write_str("no file is named (try stemma --help)"),
-            Failure::UnknownOption(word) => {
-                write!(f, "unknown option {word:?} (try stemma --help)")
-            }
-            Failure::SecondFile(word) => {
-                write!(f, "one file is read, not also {word:?} (try stemma --help)")
-            }
-            Failure::Reading(path, error) => write!(f, "cannot read {path:?}: {error}"),
-            Failure::Writing(error) => write!(f, "cannot write the answer: {error}"),
-        }
-    }
 }
 
 fn requested(rt: &(impl Env + AllocGlobal)) -> Result<Request, Failure> {
@@ -85,31 +69,30 @@ fn requested(rt: &(impl Env + AllocGlobal)) -> Result<Request, Failure> {
     }
 }
 
+// Prints the answer, with which the program ends.
+fn end(rt: &impl Print, answer: impl Display + Drop, code: ExitCode) -> Result<ExitCode, Failure> {
+    rt.println(answer).map_err(Failure::Writing)?;
+    Ok(code)
+}
+
 // A refusal is an answer too, and ends the program with status 1.
 fn answer_table(
     rt: &(impl Files + Print + AllocGlobal),
     path: String,
 ) -> Result<ExitCode, Failure> {
-    let file = fs::read(rt, path.as_str()).map_err(|error| Failure::Reading(path, error))?;
+    let file = fs::read(rt, path.as_str()).map_err(|error| Failure::Reading { path, error })?;
     match readings::read(&file) {
-        Ok(rows) => {
-            println!(rt; "{}", rows.sizes).map_err(Failure::Writing)?;
-            Ok(ExitCode::SUCCESS)
-        }
-        Err(refusal) => {
-            println!(rt; "{refusal}").map_err(Failure::Writing)?;
-            Ok(ExitCode::FAILURE)
-        }
+        Ok(rows) => end(rt, rows.sizes, ExitCode::SUCCESS),
+        Err(refusal) => end(rt, refusal, ExitCode::FAILURE),
     }
 }
 
 fn answer(rt: &(impl Env + Files + Print + AllocGlobal)) -> Result<ExitCode, Failure> {
     match requested(rt)? {
-        Request::Help => print!(rt; "{HELP}").map_err(Failure::Writing)?,
-        Request::Version => println!(rt; "{VERSION}").map_err(Failure::Writing)?,
-        Request::Table(path) => return answer_table(rt, path),
+        Request::Help => end(rt, HELP, ExitCode::SUCCESS),
+        Request::Version => end(rt, VERSION, ExitCode::SUCCESS),
+        Request::Table(path) => answer_table(rt, path),
     }
-    Ok(ExitCode::SUCCESS)
 }
 
 fn main(rt: HostRuntime) -> ExitCode {
