@@ -1,9 +1,9 @@
 -- The search, from book to book and from pair to pair.
 use Rattle.std.proofs.Common.{◌≡◌, ℕ, ◌+◌, ◌<◌, ◌≤◌, Bool, true, false, List, [], ◌∷◌, length, get_or, Some, None, Option, sym, refl, subst, inl, inr, arith, below_more}
 use Rattle.std.proofs.lemmas.Bool.{both_ways, cases_lt}
-use Rattle.sets.specs.Sets.{SmallestBelow, only, shared}
 use Rattle.std.specs.Bool.{then_some}
 use Rattle.std.specs.Option.{option_or}
+use Rattle.sets.specs.Sets.{SmallestBelow, only, shared}
 use Rattle.conflicts.specs.Seen.{conflict_by, conflict_of, seen_with}
 use Rattle.conflicts.specs.Conflicts.{NoLater, numbers}
 use Rattle.conflicts.specs.Crossing.{Agree, Crossing, Finds}

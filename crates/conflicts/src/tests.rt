@@ -1,4 +1,4 @@
-// Worked examples: the tables of the documents, the edges of the search, and lent memory.
+// Worked examples: small tables with a conflict and without, the edges of the search, and lent memory.
 use crate::{Conflict, cross, first_conflict, first_in_file};
 use readings::{Lent, Refusal};
 

@@ -1,7 +1,7 @@
 // A table's file: n in one byte, m in two, the low byte first, and eight bytes for each place.
-ghost use Rattle.std.specs.Prelude.{◌≡◌, ◌+◌, ◌*◌, ◌<◌, ◌≤◌, not, length, drop, IfSome, IfOk, if◌then◌else◌, Some, None, Ok, Err, nat_eq};
+ghost use Rattle.std.specs.Prelude.{◌≡◌, ◌+◌, ◌*◌, ◌<◌, ◌≤◌, not, length, drop, IfSome, IfOk, if◌then◌else◌, Some, None, nat_eq};
 ghost use Rattle.readings.specs.Bits.{little};
-ghost use Rattle.readings.specs.Files.{AllKnown, books_in, bytes_of, known, no_books, no_places, places_in, reading, row_at, sizes_of, sizes_text, stranger};
+ghost use Rattle.readings.specs.Files.{AllKnown, books_in, bytes_of, known, no_books, no_places, places_in, reading, row_at, sizes_of, sizes_text};
 ghost use Rattle.readings.specs.Tables.{contents};
 ghost use Rattle.std.specs.List.{find, range_with_len};
 ghost use Rattle.std.specs.Option.{option_copied};

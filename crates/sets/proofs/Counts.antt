@@ -101,5 +101,6 @@ ones-count (suc k) s h =
     digit : (u : ℕ) → u < 2 → cond {A = ℕ} (eqb u 1) 1 0 ≡ u
     digit u h = grind (arith, nat_tests)
 
+-- at 64 bits, as `count_ones` counts them
 pub ones_are : (s : ℕ) → s < 2 ^ 64 → ones s ≡ size_of s
 ones_are = ones-count 64

@@ -13,12 +13,13 @@ pub fn has(set: u64, book: u8) -> bool
     book < MAX_BOOKS && (set >> book) & 1 == 1
 }
 
-// How many books are in the set, at most 64: so the cast loses nothing, and `try_from` would only add an error that never comes.
+// How many books are in the set, at most 64.
 #[tactic(auto, using(crate::proofs::Counts::ones_are))]
 pub fn size(set: u64) -> u8
     ensures value { result ≡ size_of set }
     ensures within { result ≤ 64 }
 {
+    // At most 64, so that the cast loses nothing.
     set.count_ones() as u8
 }
 

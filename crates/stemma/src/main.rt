@@ -69,8 +69,12 @@ fn requested(rt: &(impl Env + AllocGlobal)) -> Result<Request, Failure> {
     }
 }
 
-// Prints the answer, with which the program ends.
-fn end(rt: &impl Print, answer: impl Display + Drop, code: ExitCode) -> Result<ExitCode, Failure> {
+// Prints the answer, and gives the status that goes with it.
+fn print_answer(
+    rt: &impl Print,
+    answer: impl Display + Drop,
+    code: ExitCode,
+) -> Result<ExitCode, Failure> {
     rt.println(answer).map_err(Failure::Writing)?;
     Ok(code)
 }
@@ -82,15 +86,15 @@ fn answer_table(
 ) -> Result<ExitCode, Failure> {
     let file = fs::read(rt, path.as_str()).map_err(|error| Failure::Reading { path, error })?;
     match readings::read(&file) {
-        Ok(rows) => end(rt, rows.sizes, ExitCode::SUCCESS),
-        Err(refusal) => end(rt, refusal, ExitCode::FAILURE),
+        Ok(rows) => print_answer(rt, rows.sizes, ExitCode::SUCCESS),
+        Err(refusal) => print_answer(rt, refusal, ExitCode::FAILURE),
     }
 }
 
 fn answer(rt: &(impl Env + Files + Print + AllocGlobal)) -> Result<ExitCode, Failure> {
     match requested(rt)? {
-        Request::Help => end(rt, HELP, ExitCode::SUCCESS),
-        Request::Version => end(rt, VERSION, ExitCode::SUCCESS),
+        Request::Help => print_answer(rt, HELP, ExitCode::SUCCESS),
+        Request::Version => print_answer(rt, VERSION, ExitCode::SUCCESS),
         Request::Table(path) => answer_table(rt, path),
     }
 }
