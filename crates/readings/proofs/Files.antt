@@ -1,9 +1,9 @@
 -- What holds of a table's file as it is read.
 use Rattle.std.proofs.Common.{◌≡◌, ℕ, zero, suc, ◌+◌, ◌-◌, ◌*◌, ◌^◌, ◌<◌, Bool, true, false, cond, not, eqb, ltb, List, [], ◌∷◌, map, length, get_or, take, drop, Some, None, Ok, Err, Option, Result, sym, refl, ap, ◌∙◌, ap₂, inl, inr, arith}
 use native.Mathlib.Nat.{div-eq_of_lt}
-use Rattle.std.specs.List.{find, range_with_len}
+use Rattle.std.specs.List.{find, position_from, range_with_len}
 use Rattle.std.specs.Simd.{first_chunks}
-use Rattle.std.proofs.lemmas.List.{drop-drop, get_or-drop, get_or_past, get_or-take}
+use Rattle.std.proofs.lemmas.List.{at_drop_more, drop-drop, get_or-drop, get_or_past, get_or-take}
 use Rattle.std.proofs.lemmas.List.FromFn.{get_or-map-range_with_len, length-map-range_with_len}
 use Rattle.std.proofs.lemmas.Bool.{cases_lt, cond_above, cond_below, eq-eqb, eqb-true}
 use Rattle.readings.proofs.Bits.{below_from_bits, bits_above, bytes_drop, bytes_take, little_bits, shr_none}
@@ -66,6 +66,35 @@ known_bits n w = (
 
 -- ---- the first stranger
 
+-- one row on, for whoever goes by the rows
+stranger_step : (n p : ℕ) (rows : List ℕ) (b : Bool) → p < length rows → known n (get_or rows p 0) ≡ b → stranger n p (drop p rows) ≡ cond b (stranger n (p + 1) (drop (p + 1) rows)) (Some p)
+stranger_step n p rows b l h = at_drop_more (stranger n p) rows p 0 l ∙ ap (λ x. cond x (stranger n (p + 1) (drop (p + 1) rows)) (Some p)) h
+
+module _ (n p m : ℕ) (bytes : List ℕ) (l : p < m) where
+  step : (b : Bool) → known n (row_at bytes p) ≡ b → stranger n p (drop p (rows_in bytes m)) ≡ cond b (stranger n (p + 1) (drop (p + 1) (rows_in bytes m))) (Some p)
+  step b h =
+      let e = length-rows_in bytes m in
+      stranger_step n p (rows_in bytes m) b (omega arith) (ap (known n) (get_or-rows_in bytes m p l) ∙ h)
+
+  pub stranger_more : known n (row_at bytes p) ≡ true → stranger n p (drop p (rows_in bytes m)) ≡ stranger n (p + 1) (drop (p + 1) (rows_in bytes m))
+  stranger_more = step true
+
+  pub stranger_here : known n (row_at bytes p) ≡ false → stranger n p (drop p (rows_in bytes m)) ≡ Some p
+  stranger_here = step false
+
+-- the first part that is not known is that of the first such place, from a on
+unknown_from : (n : ℕ) (bytes : List ℕ) (m a : ℕ) → position_from (λ part. not (known n (little part))) a (first_chunks 8 m (drop (8 * a) bytes)) ≡ find (λ p. not (known n (row_at bytes p))) (range_with_len a m)
+unknown_from n bytes zero a = refl
+unknown_from n bytes (suc m) a =
+    let e : 8 * a + 8 ≡ 8 * (a + 1) = omega arith in
+    let later = drop-drop 8 (8 * a) bytes ∙ ap (λ (k : ℕ). drop k bytes) e in
+    let rest = ap (λ (xs : List ℕ). position_from (λ part. not (known n (little part))) (a + 1) (first_chunks 8 m xs)) later ∙ unknown_from n bytes m (a + 1) in
+    ap₂ (λ (w : ℕ) (o : Option ℕ). cond (not (known n w)) (Some a) o) (sym (row_eight bytes a)) rest
+
+-- what was found by going from part to part, said of the places
+pub unknown_place : (n m : ℕ) (bytes : List ℕ) (r : Option ℕ) → r ≡ position_from (λ part. not (known n (little part))) 0 (first_chunks 8 m bytes) → r ≡ find (λ p. not (known n (row_at bytes p))) (range_with_len 0 m)
+unknown_place n m bytes r e = e ∙ unknown_from n bytes m 0
+
 -- it is the first place, from a on, whose row is not known
 stranger_from : (n : ℕ) (bytes : List ℕ) (m a : ℕ) → find (λ p. not (known n (row_at bytes p))) (range_with_len a m) ≡ stranger n a (map (row_at bytes) (range_with_len a m))
 stranger_from n bytes zero a = refl
@@ -91,13 +120,16 @@ known_from n p (w ∷ rows) e q l = by (known n w) refl (λ f. known_from n (p +
 pub rows_known : (n : ℕ) (rows : List ℕ) → stranger n 0 rows ≡ None → (p : ℕ) → p < length rows → get_or rows p 0 < 2 ^ n
 rows_known n rows = known_from n 0 rows
 
+pub all_known : (n m : ℕ) (bytes : List ℕ) → stranger n 0 (rows_in bytes m) ≡ None → AllKnown n m bytes
+all_known n m bytes e = record { at = λ p l. rw get_or-rows_in at (rows_known n (rows_in bytes m) e p (rw length-rows_in l)) }
+
 -- what was found by going from place to place, said of the rows
 module _ (n m : ℕ) (bytes : List ℕ) (r : Option ℕ) (found : r ≡ find (λ p. not (known n (row_at bytes p))) (range_with_len 0 m)) where
   pub stranger_is : stranger n 0 (rows_in bytes m) ≡ r
   stranger_is = sym (found ∙ stranger_from n bytes m 0)
 
-  pub all_known : r ≡ None → AllKnown n m bytes
-  all_known e = record { at = λ p l. rw get_or-rows_in at (rows_known n (rows_in bytes m) (stranger_is ∙ e) p (rw length-rows_in l)) }
+  pub none_unknown : r ≡ None → AllKnown n m bytes
+  none_unknown e = all_known n m bytes (stranger_is ∙ e)
 
 -- ---- a file that is read
 

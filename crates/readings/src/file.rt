@@ -3,7 +3,8 @@ ghost use Rattle.std.specs.Prelude.{◌≡◌, ◌+◌, ◌*◌, ◌<◌, ◌≤
 ghost use Rattle.readings.specs.Bits.{little};
 ghost use Rattle.readings.specs.Files.{AllKnown, books_in, bytes_of, known, no_books, no_places, places_in, reading, row_at, sizes_of, sizes_text};
 ghost use Rattle.readings.specs.Tables.{contents};
-ghost use Rattle.std.specs.List.{find, range_with_len};
+ghost use Rattle.std.specs.List.{position_from};
+ghost use Rattle.std.specs.Simd.{first_chunks};
 ghost use Rattle.std.specs.Option.{option_copied};
 ghost use Rattle.std.specs.Result.{result_map_both};
 
@@ -72,7 +73,7 @@ fn places_of(file: &[u8]) -> Option<u16>
 }
 
 // The bytes of the rows of a file with these sizes: eight for each place, in which no book reads 1 that is not there.
-#[tactic(auto, using(crate::proofs::Files::stranger_is, crate::proofs::Files::all_known))]
+#[tactic(auto, using(crate::proofs::Files::unknown_place, crate::proofs::Files::stranger_is, crate::proofs::Files::none_unknown))]
 pub fn read_rows(file: &[u8], sizes: Sizes) -> Result<&[u8], Refusal>
     ensures value { result_map_both (λ x. x.now) (λ e. e) result ≡ bytes_of file.now sizes }
     ensures whole { IfOk result (λ bytes. length bytes.now ≡ 8 * sizes.places) }
@@ -84,7 +85,8 @@ pub fn read_rows(file: &[u8], sizes: Sizes) -> Result<&[u8], Refusal>
     let Some(p) = first_stranger(bytes, sizes) else {
         return Ok(bytes);
     };
-    Err(Refusal::UnknownBook(p))
+    // Below the number of places, which is a `u16`, so that the cast loses nothing.
+    Err(Refusal::UnknownBook(p as u16))
 }
 
 // The whole file: the rows of its table.
@@ -105,12 +107,16 @@ fn rows_part(file: &[u8], places: u16) -> Option<&[u8]>
     (bytes.len() == ROW_BYTES * usize::from(places)).then_some(bytes)
 }
 
-// The first place at which a book reads 1 that is not there.
-fn first_stranger(bytes: &[u8], sizes: Sizes) -> Option<u16>
+// The first place at which a book reads 1 that is not there, by the parts of eight bytes one after another.
+fn first_stranger(bytes: &[u8], sizes: Sizes) -> Option<usize>
     requires { length bytes.now ≡ 8 * sizes.places }
-    ensures { result ≡ find (λ p. not (known sizes.books (row_at bytes.now p))) (range_with_len 0 sizes.places) }
+    ensures value { result ≡ position_from (λ part. not (known sizes.books (little part))) 0 (first_chunks 8 sizes.places bytes.now) }
+    ensures bound { IfSome result (λ p. p < sizes.places) }
 {
-    (0..sizes.places).find(|&p| has_stranger(row_of(bytes, p), sizes.books))
+    let (parts, _) = bytes.as_chunks::<ROW_BYTES>();
+    parts
+        .iter()
+        .position(|part| has_stranger(row(part), sizes.books))
 }
 
 // Whether a book reads 1 in the row that is none of so many. No row has a bit past the 64th, and no shift goes that far.
