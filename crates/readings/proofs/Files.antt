@@ -95,7 +95,7 @@ unknown_from n bytes (suc m) a =
 pub unknown_place : (n m : ℕ) (bytes : List ℕ) (r : Option ℕ) → r ≡ position_from (λ part. not (known n (little part))) 0 (first_chunks 8 m bytes) → r ≡ find (λ p. not (known n (row_at bytes p))) (range_with_len 0 m)
 unknown_place n m bytes r e = e ∙ unknown_from n bytes m 0
 
--- it is the first place, from a on, whose row is not known
+-- the stranger is the first place, from a on, whose row is not known
 stranger_from : (n : ℕ) (bytes : List ℕ) (m a : ℕ) → find (λ p. not (known n (row_at bytes p))) (range_with_len a m) ≡ stranger n a (map (row_at bytes) (range_with_len a m))
 stranger_from n bytes zero a = refl
 stranger_from n bytes (suc m) a =
